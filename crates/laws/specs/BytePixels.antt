@@ -1,0 +1,76 @@
+-- Bytes without padding bits are given back by their pixels: so a stack of bytes is settled by its pixels.
+use mathlib.Core.Path.{_≡_, refl, sym, ap, _∙_}
+use mathlib.Core.Bool.{Bool, true, false, not, _&&_, _||_}
+use mathlib.Core.List.{List, [], _∷_, _++_}
+use Prim.Native.Nat.{ℕ, zero, suc, _+_, _-_, _*_, _/_, _%_, _^_, _≤_, _<_}
+use native.Mathlib.Nat.{zero-add, suc-add, div-add-mod', mod-lt, div-lt-iff-lt-mul, div-one, pow-succ', pow-suc, div-div-eq-div-mul, mul-assoc, mul-div-cancel, div-eq-of-lt}
+use native.Mathlib.Omega.{arith}
+use lib.Arith.{digits-lt, digits-div, digits-mod}
+use lib.Pow.{field, mod-mod-pow, pow-pos}
+use native.Mathlib.Numerals.{add-one}
+use lib.Dec.{leb, ltb, eqb}
+use lib.ListN.{getD, length}
+use lib.Seq.{ext-getD}
+use borrow.Author.Tests.{eqb-true, eqb-false, ltb-true, ltb-false, eq-eqb, ne-eqb, lt-ltb, le-ltb}
+use Rattle.rules.specs.Images.{Plane, Stack, rowBytes, bitAt, pixel, paddingSet, byteOf, bytesOf}
+use Rattle.rules.specs.Tools.{bit, some, each}
+use Rattle.laws.specs.Tests.{split, clash, some-in, not-in, getD-each, length-each}
+use Rattle.laws.specs.Places.{digits-in}
+
+bit-of : (y : ℕ) → y < 2 → bit (eqb y 1) ≡ y
+unfolding bit
+bit-of zero l = refl
+bit-of (suc zero) l = refl
+bit-of (suc (suc y)) l = absurd (omega arith)
+
+-- the low e bits are 0: so is each of them
+low-zero : (x d f : ℕ) → x % 2 ^ (suc f + d) ≡ 0 → x / 2 ^ d % 2 ≡ 0
+low-zero x d f e =
+    let z : x / 2 ^ d % 2 ^ (f + 1) ≡ 0 = sym (field x (f + 1) d) ∙ rw (add-one f, e) (div-eq-of-lt (pow-pos d)) in
+    sym (mod-mod-pow (x / 2 ^ d) f 1) ∙ rw z
+
+module _ (w h n : ℕ) (l : List ℕ) (clear : paddingSet w (n * h) l ≡ false) where
+  no-padding : (row : ℕ) → row < n * h → getD l (row * rowBytes w + (rowBytes w - 1)) 0 % 2 ^ (8 * rowBytes w - w) ≡ 0
+  unfolding paddingSet
+  no-padding row lr =
+      let T : ℕ → Bool = λ row. eqb (getD l (row * rowBytes w + (rowBytes w - 1)) 0 % 2 ^ (8 * rowBytes w - w)) 0 in
+      split (T row) (λ t. eqb-true _ _ t) (λ f. clash (some-in (n * h) (λ row. not (T row)) row lr (not-in (T row) f)) clear)
+
+  -- bit k of byte j of a row, as a pixel or as padding, is what the byte has there
+  bit-at : (row j k d : ℕ) → 0 < h → row < n * h → j < rowBytes w → k + suc d ≡ 8 →
+      bit (ltb (8 * j + k) w && pixel w h l (row / h) (row % h * w + (8 * j + k))) ≡ getD l (row * rowBytes w + j) 0 / 2 ^ d % 2
+  unfolding pixel bitAt bit rowBytes
+  bit-at row j k d lh lr lj e =
+      let x : ℕ = getD l (row * rowBytes w + j) 0 in
+      split (ltb (8 * j + k) w)
+      (λ t.
+      let lc : 8 * j + k < w = ltb-true (8 * j + k) w t in
+      let c8 : (8 * j + k) / 8 ≡ j = omega arith in
+      let c7 : 7 - (8 * j + k) % 8 ≡ d = omega arith in
+      rw (t, digits-div (row % h) lc, digits-mod (row % h) lc, div-add-mod' row h, c8, c7) (bit-of (x / 2 ^ d % 2) (mod-lt (x / 2 ^ d) (omega arith))))
+      (λ t.
+      let lc : w ≤ 8 * j + k = ltb-false (8 * j + k) w t in
+      let last : rowBytes w - 1 ≡ j = omega arith in
+      let f : ℕ = 8 * rowBytes w - w - suc d in
+      let s : suc f + d ≡ 8 * rowBytes w - w = omega arith in
+      rw t (sym (low-zero x d f (rw (s, ← last) (no-padding row lr)))))
+
+  byte-at : (row j k d : ℕ) → 0 < h → row < n * h → j < rowBytes w → getD l (row * rowBytes w + j) 0 < 256 → k + d ≡ 8 →
+      byteOf w h (pixel w h l) row j k ≡ getD l (row * rowBytes w + j) 0 / 2 ^ d
+  unfolding byteOf
+  byte-at row j zero d lh lr lj b e = let z : d ≡ 8 = omega arith in rw z (sym (div-eq-of-lt b))
+  byte-at row j (suc k) d lh lr lj b e =
+      let x : ℕ = getD l (row * rowBytes w + j) 0 in
+      let z : x / 2 ^ suc d ≡ x / 2 ^ d / 2 = rw (pow-suc 2 d, div-div-eq-div-mul x (2 ^ d) 2) in
+      rw (byte-at row j k (suc d) lh lr lj b (omega arith), bit-at row j k d lh lr lj (omega arith), z) (div-add-mod' (x / 2 ^ d) 2)
+
+-- a stack of bytes is the bytes of its pixels
+pub bytes-pixel : (w h n : ℕ) (l : List ℕ) → 0 < h → length l ≡ n * h * rowBytes w → ((b : ℕ) → b < length l → getD l b 0 < 256) → paddingSet w (n * h) l ≡ false → bytesOf w h n (pixel w h l) ≡ l
+unfolding bytesOf
+bytes-pixel w h n l lh len small clear =
+    ext-getD 0 (bytesOf w h n (pixel w h l)) l (length-each 0 (n * h * rowBytes w) _ ∙ sym len) (λ b lb.
+    let lb′ : b < n * h * rowBytes w = omega (arith, length-each 0 (n * h * rowBytes w) (λ b. byteOf w h (pixel w h l) (b / rowBytes w) (b % rowBytes w) 8)) in
+    let (lr, lj) = digits-in b (n * h) (rowBytes w) lb′ in
+    let z : b / rowBytes w * rowBytes w + b % rowBytes w ≡ b = div-add-mod' b (rowBytes w) in
+    getD-each 0 (n * h * rowBytes w) (λ b. byteOf w h (pixel w h l) (b / rowBytes w) (b % rowBytes w) 8) b 0 lb′
+    ∙ rw (zero-add b, byte-at w h n l clear (b / rowBytes w) (b % rowBytes w) 8 0 lh lr lj (rw z (small b (omega arith))) refl, z, div-one))

@@ -1,0 +1,1 @@
+// Theorems about the rules, in specs/. No code.

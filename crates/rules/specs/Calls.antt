@@ -1,0 +1,200 @@
+-- 'Refusal numbers' of 01: for each call its refusals in their order, its answer, and what the lent memory holds afterwards.
+use mathlib.Core.Bool.{Bool, true, false, not, _&&_, _||_, cond}
+use mathlib.Core.List.{List, [], _∷_, _++_}
+use Prim.Native.Nat.{ℕ, _+_, _*_}
+use lib.Dec.{leb, ltb, eqb}
+use lib.ListN.{length}
+use Rattle.rules.specs.Tools.{Case, _when_, refusal, answer}
+use Rattle.rules.specs.Images.{rowBytes, sized, rowsOf, stackBytes, ringsIn, paddingSet}
+use Rattle.rules.specs.Reach.{settable, reachOf, boundOf}
+use Rattle.rules.specs.Planning.{plannedRings, plannedBytes}
+use Rattle.rules.specs.Judging.{verdictOf}
+use Rattle.rules.specs.Jobs.{Job, be32, headEnd, partEnd, supportCount, supportEnd, ringCount, jobEnd, settingsIn, storedIn, partIn, supportIn, ringsStored, layoutOf, storedRows, fileOf, fileLength, over}
+use Rattle.rules.specs.declared.Micrometres.{Micrometres}
+use Rattle.rules.specs.declared.Settings.{Settings}
+use Rattle.rules.specs.declared.Place.{Place}
+use Rattle.rules.specs.declared.Layout.{Layout}
+use Rattle.rules.specs.declared.Reached.{Reached}
+use Rattle.rules.specs.declared.Reached.the-variants.{By, Refused as NotReached}
+use Rattle.rules.specs.declared.Planned.{Planned}
+use Rattle.rules.specs.declared.Planned.the-variants.{Done, Refused as NotPlanned}
+use Rattle.rules.specs.declared.Judged.{Judged}
+use Rattle.rules.specs.declared.Judged.the-variants.{Accepted, Refused as NotJudged, RefusedAt}
+use Rattle.rules.specs.declared.ReadJob.{ReadJob}
+use Rattle.rules.specs.declared.ReadJob.the-variants.{Job as IsJob, Refused as NotRead}
+use Rattle.rules.specs.declared.CopiedRings.{CopiedRings}
+use Rattle.rules.specs.declared.CopiedRings.the-variants.{Copied, Refused as NotCopied}
+use Rattle.rules.specs.declared.WrittenJob.{WrittenJob}
+use Rattle.rules.specs.declared.WrittenJob.the-variants.{Length, Refused as NotWritten}
+
+-- "A refusal carries its number, its place where the table says so, and nothing else." Each answer as 01's number, 0 for none,
+-- and then its values -------------------------------------------------------------------------------------------------------
+
+abbrev pub saysReached : Reached → List ℕ
+saysReached (By r) = 0 ∷ r .0 ∷ []
+saysReached (NotReached k) = k ∷ []
+
+abbrev pub saysPlanned : Planned → List ℕ
+saysPlanned Done = 0 ∷ []
+saysPlanned (NotPlanned k) = k ∷ []
+
+abbrev pub saysJudged : Judged → List ℕ
+saysJudged Accepted = 0 ∷ []
+saysJudged (NotJudged k) = k ∷ []
+saysJudged (RefusedAt k at) = k ∷ at .layer ∷ at .row ∷ at .column ∷ []
+
+abbrev pub saysSettings : Settings → List ℕ
+saysSettings s = s .w ∷ s .h ∷ s .n ∷ s .pitch .0 ∷ s .overhang .0 ∷ []
+
+abbrev pub saysRead : ReadJob → List ℕ
+saysRead (IsJob l) =
+    0 ∷ saysSettings (l .settings) ++ cond (l .stored) 1 0 ∷ l .first ∷ l .part ∷ l .support ∷ l .rings ∷ []
+saysRead (NotRead k) = k ∷ []
+
+abbrev pub saysCopied : CopiedRings → List ℕ
+saysCopied Copied = 0 ∷ []
+saysCopied (NotCopied k) = k ∷ []
+
+abbrev pub saysWritten : WrittenJob → List ℕ
+saysWritten (Length k) = 0 ∷ k ∷ []
+saysWritten (NotWritten k) = k ∷ []
+
+-- The reach call: "is given p and t only and answers 2 or 3 or R; for it 1 doesn't apply" -----------------------------------
+
+unfoldable pub reachCases : Micrometres → Micrometres → List Case
+reachCases p t =
+    (2 when not (settable p t))
+    ∷ (3 when ltb 32 (reachOf p t .0))
+    ∷ []
+
+unfoldable pub reachAnswer : Micrometres → Micrometres → Reached
+reachAnswer p t = answer (refusal (reachCases p t)) (By (reachOf p t)) NotReached
+
+-- 1, 2, 3: of all calls but reach
+unfoldable pub settingCases : Settings → List Case
+settingCases s = (1 when not (sized s)) ∷ reachCases (s .pitch) (s .overhang)
+
+-- Planning: part is read, support and rings are lent ---------------------------------------------------------------------------
+
+unfoldable pub lengthCases : Settings → ℕ → ℕ → ℕ → List Case
+lengthCases s part support rings =
+    (4 when not (eqb part (stackBytes s)))
+    ∷ (5 when not (eqb support (stackBytes s)))
+    ∷ (6 when not (eqb rings (ringsIn s)))
+    ∷ []
+
+unfoldable pub planCases : Settings → List ℕ → ℕ → ℕ → List Case
+planCases s part support rings =
+    settingCases s
+    ++ lengthCases s (length part) support rings
+    ++ (7 when paddingSet (s .w) (rowsOf s) part)
+    ∷ []
+
+unfoldable pub planRefusal : Settings → List ℕ → ℕ → ℕ → ℕ
+planRefusal s part support rings = refusal (planCases s part support rings)
+
+unfoldable pub planAnswer : Settings → List ℕ → ℕ → ℕ → Planned
+planAnswer s part support rings = answer (planRefusal s part support rings) Done NotPlanned
+
+-- "All lent memory then holds what it held before."
+unfoldable pub planSupport : Settings → List ℕ → List ℕ → List ℕ → List ℕ
+planSupport s part support rings =
+    answer (planRefusal s part (length support) (length rings)) (plannedBytes (s .w) (s .h) (s .n) (boundOf s) part) (λ k. support)
+
+unfoldable pub planRings : Settings → List ℕ → List ℕ → List ℕ → List ℕ
+planRings s part support rings =
+    answer (planRefusal s part (length support) (length rings)) (plannedRings (s .w) (s .h) (s .n) (boundOf s) part) (λ k. rings)
+
+-- Judging -----------------------------------------------------------------------------------------------------------------------
+
+unfoldable pub judgeCases : Settings → List ℕ → List ℕ → ℕ → List Case
+judgeCases s part support rings =
+    settingCases s
+    ++ lengthCases s (length part) (length support) rings
+    ++ (7 when paddingSet (s .w) (rowsOf s) part)
+    ∷ (8 when paddingSet (s .w) (rowsOf s) support)
+    ∷ []
+
+unfoldable pub judgeAnswer : Settings → List ℕ → List ℕ → List ℕ → Judged
+judgeAnswer s part support rings =
+    answer (refusal (judgeCases s part support (length rings)))
+    (verdictOf (s .w) (s .h) (s .n) (boundOf s) part support rings)
+    NotJudged
+
+-- Reading: "reading goes from the first byte" -------------------------------------------------------------------------------------
+
+-- "a count cut short is 12, a wrong count 13 before its contents, then contents cut short 12": the section whose count stands at
+-- `at`, with units of u bytes
+unfoldable pub sectionCases : List ℕ → ℕ → (ℕ → Bool) → ℕ → List Case
+sectionCases f at allowed u =
+    (12 when ltb (length f) (at + 4))
+    ∷ (13 when not (allowed (be32 f at)))
+    ∷ (12 when ltb (length f) (at + 4 + be32 f at * u))
+    ∷ []
+
+-- "Values 1, 2, 3 are tested when section 1 is whole. Padding is tested last, after 14"
+unfoldable pub readCases : List ℕ → List Case
+readCases f =
+    let s : Settings = settingsIn f in
+    let c : ℕ = storedIn f in
+    sectionCases f 0 (eqb 5) 2
+    ++ settingCases s
+    ++ sectionCases f headEnd (eqb (rowsOf s)) (rowBytes (s .w))
+    ++ sectionCases f (partEnd s) (supportCount s) (rowBytes (s .w))
+    ++ sectionCases f (supportEnd s c) (eqb (ringCount s c)) 2
+    ++ (14 when ltb (jobEnd s c) (length f))
+    ∷ (7 when paddingSet (s .w) (rowsOf s) (partIn f))
+    ∷ (8 when paddingSet (s .w) c (supportIn f))
+    ∷ []
+
+unfoldable pub readRefusal : List ℕ → ℕ
+readRefusal f = refusal (readCases f)
+
+unfoldable pub readAnswer : List ℕ → ReadJob
+readAnswer f = answer (readRefusal f) (IsJob (layoutOf f)) NotRead
+
+-- "For part and for support a call hands back that stretch of the caller's file, empty where none is stored or the job is
+-- refused; these two calls give no number."
+unfoldable pub partAnswer : List ℕ → List ℕ
+partAnswer f = answer (readRefusal f) (partIn f) (λ k. [])
+
+unfoldable pub supportAnswer : List ℕ → List ℕ
+supportAnswer f = answer (readRefusal f) (supportIn f) (λ k. [])
+
+-- "Another call copies rings to a lent ring buffer, which must have exactly the stored number of rings (else 6)": "copying rings
+-- tests 6 after everything reading tests"
+unfoldable pub copyCases : List ℕ → ℕ → List Case
+copyCases f room = readCases f ++ (6 when not (eqb room (ringCount (settingsIn f) (storedIn f)))) ∷ []
+
+unfoldable pub copyAnswer : List ℕ → ℕ → CopiedRings
+copyAnswer f room = answer (refusal (copyCases f room)) Copied NotCopied
+
+unfoldable pub copyRings : List ℕ → List ℕ → List ℕ
+copyRings f rings = answer (refusal (copyCases f (length rings))) (ringsStored f) (λ k. rings)
+
+-- Writing -------------------------------------------------------------------------------------------------------------------------
+
+-- "support length wrong (writing: neither 0 nor full)", "ring count wrong (writing without support: not 0)"
+unfoldable pub writeCases : Job → ℕ → List Case
+writeCases j room =
+    let s : Settings = j .settings in
+    let c : ℕ = storedRows s (length (j .support)) in
+    settingCases s
+    ++ (4 when not (eqb (length (j .part)) (stackBytes s)))
+    ∷ (5 when not (eqb (length (j .support)) 0 || eqb (length (j .support)) (stackBytes s)))
+    ∷ (6 when not (eqb (length (j .rings)) (ringCount s c)))
+    ∷ (7 when paddingSet (s .w) (rowsOf s) (j .part))
+    ∷ (8 when paddingSet (s .w) c (j .support))
+    ∷ (15 when ltb 4294967295 (fileLength j))
+    ∷ (16 when ltb room (fileLength j))
+    ∷ []
+
+unfoldable pub writeRefusal : Job → ℕ → ℕ
+writeRefusal j room = refusal (writeCases j room)
+
+-- "answers the length; bytes past that length stay"
+unfoldable pub writeAnswer : Job → ℕ → WrittenJob
+writeAnswer j room = answer (writeRefusal j room) (Length (fileLength j)) NotWritten
+
+unfoldable pub writeTo : Job → List ℕ → List ℕ
+writeTo j d = answer (writeRefusal j (length d)) (over d 0 (fileOf j)) (λ k. d)

@@ -1,0 +1,42 @@
+-- The words of demands 2 and 3 as statements: joined, excused and sound.
+use mathlib.Core.Path.{_≡_}
+use mathlib.Core.Logic.{_⊎_}
+use mathlib.Core.Bool.{Bool, true, false, _||_}
+use mathlib.Core.List.{List}
+use Prim.Native.Nat.{ℕ, suc, _*_, _<_}
+use lib.ListN.{getD}
+use Rattle.rules.specs.Images.{Plane, Stack}
+use Rattle.rules.specs.Planning.{touch, seeds, reached}
+
+-- "joined, by pixels touching at a side or corner, itself the first": the pixel p is joined to a seed by k steps over free pixels
+pub data Joined (m : ℕ) (touch : ℕ → ℕ → Bool) (free seed : Plane) : ℕ → ℕ → Type 0 where
+  start : {p o : ℕ} → free p ≡ true → o < m → touch p o ≡ true → seed o ≡ true → Joined m touch free seed 1 p
+  onward : {k p o : ℕ} → free p ≡ true → o < m → touch p o ≡ true → Joined m touch free seed k o → Joined m touch free seed (suc k) p
+
+module _ (w h : ℕ) (q : ℕ → ℕ) (part : Stack) where
+  -- "that are all part above, not part below and within reach of part below"
+  abbrev pub freeIn : ℕ → Plane
+  freeIn i = reached w h (q i) (part i) (part (suc i))
+
+  -- "to a pixel that is part in both layers"
+  abbrev pub seedIn : ℕ → Plane
+  seedIn i = seeds (part i) (part (suc i))
+
+  abbrev pub JoinedBy : ℕ → ℕ → ℕ → Type 0
+  JoinedBy i k p = Joined (h * w) (touch w) (freeIn i) (seedIn i) k p
+
+  -- the pixel p of layer i + 1 is excused from support in layer i
+  abbrev pub Excused : ℕ → ℕ → Type 0
+  Excused i p = (k : ℕ) × JoinedBy i k p
+
+-- "no support pixel is also part, and each part or support pixel above the bottom layer has part or support below it or is excused"
+pub record Sound (w h n : ℕ) (q : ℕ → ℕ) (part sup : Stack) : Type 0 where
+  pub clear : (i p : ℕ) → i < n → p < h * w → sup i p ≡ true → part i p ≡ false
+  pub holds : (i p : ℕ) → suc i < n → p < h * w → (part (suc i) p || sup (suc i) p) ≡ true → ((part i p || sup i p) ≡ true) ⊎ Excused w h q part i p
+
+-- every element is a byte; every element is a number of 16 bits
+abbrev pub Bytes : List ℕ → Type 0
+Bytes l = (i : ℕ) → getD l i 0 < 256
+
+abbrev pub Words : List ℕ → Type 0
+Words l = (i : ℕ) → getD l i 0 < 65536

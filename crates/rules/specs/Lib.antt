@@ -1,0 +1,10 @@
+-- The rules of document 01, in reading order.
+pub mod Tools
+pub mod Images
+pub mod Reach
+pub mod Planning
+pub mod Judging
+pub mod Jobs
+pub mod Calls
+pub mod Report
+pub mod Demands

@@ -1,0 +1,70 @@
+// The settings of a job and the answers of the calls. The definitions of specs/ say what each answer means.
+
+// A length in micrometres. Only the reach rule turns it into pixels.
+pub struct Micrometres(pub u32);
+
+// A length in pixels: a reach, or how far a disc runs to each side.
+pub struct Pixels(pub usize);
+
+// What all layers of a job share: width, height, number of layers, pixel width and overhang.
+pub struct Settings {
+    pub w: usize,
+    pub h: usize,
+    pub n: usize,
+    pub pitch: Micrometres,
+    pub overhang: Micrometres,
+}
+
+// A pixel of a stack, all counted from 0.
+pub struct Place {
+    pub layer: usize,
+    pub row: usize,
+    pub column: usize,
+}
+
+// The answer of the reach call.
+pub enum Reached {
+    By(Pixels),
+    Refused(u8),
+}
+
+// The answer of planning.
+pub enum Planned {
+    Done,
+    Refused(u8),
+}
+
+// The answer of the checker.
+pub enum Judged {
+    Accepted,
+    Refused(u8),
+    RefusedAt(u8, Place),
+}
+
+// What reading tells of a job file: the offset of the first byte after the count of each section.
+pub struct Layout {
+    pub settings: Settings,
+    pub stored: bool,
+    pub first: usize,
+    pub part: usize,
+    pub support: usize,
+    pub rings: usize,
+}
+
+// The answer of reading.
+pub enum ReadJob {
+    Job(Layout),
+    Refused(u8),
+}
+
+// The answer of copying rings out of a file.
+pub enum CopiedRings {
+    Copied,
+    Refused(u8),
+}
+
+// The answer of writing: the job's length.
+pub enum WrittenJob {
+    Length(usize),
+    Refused(u8),
+}
