@@ -5,4 +5,5 @@ pub mod Places
 pub mod Soundness
 pub mod PixelBytes
 pub mod BytePixels
+pub mod Refusals
 pub mod Bench

@@ -1,14 +1,25 @@
--- The words of demands 2 and 3 as statements: joined, excused and sound.
+-- The words of the three demands as statements: given exactly when; joined, excused and sound.
 use mathlib.Core.Path.{_≡_}
 use mathlib.Core.Logic.{_⊎_}
 use mathlib.Core.Bool.{Bool, true, false, _||_}
-use mathlib.Core.List.{List}
+use mathlib.Core.List.{List, [], _∷_}
 use Prim.Native.Nat.{ℕ, suc, _*_, _<_}
 use lib.ListN.{getD}
+use Rattle.rules.specs.Tools.{Case, _when_}
 use Rattle.rules.specs.Images.{Plane, Stack}
 use Rattle.rules.specs.Planning.{touch, seeds, reached}
 
--- "joined, by pixels touching at a side or corner, itself the first": the pixel p is joined to a seed by k steps over free pixels
+-- Demand 1: "given exactly when": the number k is that of a case whose condition holds, and no earlier one of the table does
+pub data Given (k : ℕ) : List Case → Type 0 where
+  here : {b : Bool} {cs : List Case} → b ≡ true → Given k ((k when b) ∷ cs)
+  later : {j : ℕ} {b : Bool} {cs : List Case} → b ≡ false → Given k cs → Given k ((j when b) ∷ cs)
+
+-- no condition of the table holds
+pub data NoneGiven : List Case → Type 0 where
+  end : NoneGiven []
+  next : {j : ℕ} {b : Bool} {cs : List Case} → b ≡ false → NoneGiven cs → NoneGiven ((j when b) ∷ cs)
+
+-- Demands 2 and 3: "joined, by pixels touching at a side or corner, itself the first": the pixel p is joined to a seed by k steps over free pixels
 pub data Joined (m : ℕ) (touch : ℕ → ℕ → Bool) (free seed : Plane) : ℕ → ℕ → Type 0 where
   start : {p o : ℕ} → free p ≡ true → o < m → touch p o ≡ true → seed o ≡ true → Joined m touch free seed 1 p
   onward : {k p o : ℕ} → free p ≡ true → o < m → touch p o ≡ true → Joined m touch free seed k o → Joined m touch free seed (suc k) p

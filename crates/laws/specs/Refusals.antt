@@ -1,0 +1,142 @@
+-- Demand 1: the first refusal of a table, taken apart and put together; and the table of each call.
+use mathlib.Core.Path.{_≡_, refl, sym, subst}
+use mathlib.Core.Logic.{_⊎_, inl, inr, _↔_}
+use mathlib.Core.Bool.{Bool, true, false, not, _&&_, cond}
+use mathlib.Core.List.{List, [], _∷_, _++_, map}
+use Prim.Native.Nat.{ℕ, zero, suc}
+use native.Mathlib.Omega.{arith}
+use lib.Dec.{eqb}
+use Rattle.rules.specs.Tools.{Case, _when_, refusal, answer}
+use Rattle.rules.specs.Demands.{Given, here, later, NoneGiven, end, next}
+use Rattle.rules.specs.Jobs.{Job}
+use Rattle.rules.specs.Calls.{reachCases, settingCases, lengthCases, planCases, judgeCases, sectionCases, readCases, copyCases, writeCases}
+use Rattle.rules.specs.Report.{reportCases}
+use Rattle.rules.specs.declared.Micrometres.{Micrometres}
+use Rattle.rules.specs.declared.Settings.{Settings}
+use Rattle.laws.specs.Tests.{split, clash, and-l, and-r}
+
+-- "given exactly when" ------------------------------------------------------------------------------------------------
+
+given-in : (cs : List Case) (k : ℕ) → refusal cs ≡ suc k → Given (suc k) cs
+given-in [] k e = absurd (omega arith)
+given-in (c ∷ cs) k e =
+    split (c .applies)
+    (λ t. let g : Given (c .number) (c ∷ cs) = here {b = c .applies} {cs = cs} t in subst (λ (j : ℕ). Given j (c ∷ cs)) (rw t at e) g)
+    (λ t. later {j = c .number} {b = c .applies} {cs = cs} t (given-in cs k (rw t at e)))
+
+given-out : {cs : List Case} {k : ℕ} → Given k cs → refusal cs ≡ k
+given-out (here t) = rw t
+given-out (later t r) = rw t (given-out r)
+
+-- the refusal of any table is k exactly when k's condition holds and no earlier one does
+pub given-exactly : (cs : List Case) (k : ℕ) → (refusal cs ≡ suc k) ↔ Given (suc k) cs
+given-exactly cs k = (given-in cs k, λ g. given-out g)
+
+-- the numbers of a table, in its order: none is 0, so 0 says that no condition holds
+unfoldable pub numbered : List Case → Bool
+numbered [] = true
+numbered (c ∷ cs) = not (eqb (c .number) 0) && numbered cs
+
+head-number : (k : ℕ) (b : Bool) → (not (eqb k 0) && b) ≡ true → k ≡ 0 → ⊥
+head-number zero b e z = clash e refl
+head-number (suc k) b e z = omega arith
+
+none-in : (cs : List Case) → numbered cs ≡ true → refusal cs ≡ 0 → NoneGiven cs
+unfolding numbered
+none-in [] n e = end
+none-in (c ∷ cs) n e =
+    split (c .applies)
+    (λ t. absurd (head-number (c .number) (numbered cs) n (rw t at e)))
+    (λ t. next {j = c .number} {b = c .applies} {cs = cs} t (none-in cs (and-r (not (eqb (c .number) 0)) _ n) (rw t at e)))
+
+none-out : {cs : List Case} → NoneGiven cs → refusal cs ≡ 0
+none-out end = refl
+none-out (next t r) = rw t (none-out r)
+
+-- there is no refusal exactly when no condition holds
+pub none-exactly : (cs : List Case) → numbered cs ≡ true → (refusal cs ≡ 0) ↔ NoneGiven cs
+none-exactly cs n = (none-in cs n, λ r. none-out r)
+
+-- "Every call ends with a defined answer": what no case refuses is answered, and what one refuses is refused with its number
+pub answered : {A : Type 0} (cs : List Case) (fine : A) (refused : ℕ → A) →
+    ((refusal cs ≡ 0) × (answer (refusal cs) fine refused ≡ fine)) ⊎ ((k : ℕ) × Given (suc k) cs × (answer (refusal cs) fine refused ≡ refused (suc k)))
+answered {A} cs fine refused = go (refusal cs) refl
+  where
+    go : (r : ℕ) → refusal cs ≡ r → ((refusal cs ≡ 0) × (answer r fine refused ≡ fine)) ⊎ ((k : ℕ) × Given (suc k) cs × (answer r fine refused ≡ refused (suc k)))
+    go zero e = inl (e, refl)
+    go (suc k) e = inr (k, given-in cs k e, refl)
+
+-- Tables in parts -----------------------------------------------------------------------------------------------------
+
+-- the first refusal number of two, 0 being none
+abbrev pub orElse : ℕ → ℕ → ℕ
+orElse zero b = b
+orElse (suc a) b = suc a
+
+pub else-none : (a b : ℕ) → a ≡ 0 → orElse a b ≡ b
+else-none zero b e = refl
+else-none (suc a) b e = absurd (omega arith)
+
+pub else-some : (a b : ℕ) → (a ≡ 0 → ⊥) → orElse a b ≡ a
+else-some zero b n = absurd (n refl)
+else-some (suc a) b n = refl
+
+pub else-both : (a b : ℕ) → orElse a b ≡ 0 → (a ≡ 0) × (b ≡ 0)
+else-both zero b e = (refl, e)
+else-both (suc a) b e = absurd (omega arith)
+
+pub refusal-append : (a b : List Case) → numbered a ≡ true → refusal (a ++ b) ≡ orElse (refusal a) (refusal b)
+unfolding numbered
+refusal-append [] b n = refl
+refusal-append (c ∷ a) b n =
+    split (c .applies)
+    (λ t. rw t (sym (else-some (c .number) (refusal b) (λ z. head-number (c .number) (numbered a) n z))))
+    (λ t. rw t (refusal-append a b (and-r (not (eqb (c .number) 0)) _ n)))
+
+-- one case before others, taken apart
+pub case-out : (b : Bool) (k x : ℕ) → cond b (suc k) x ≡ 0 → (b ≡ false) × (x ≡ 0)
+case-out true k x e = absurd (omega arith)
+case-out false k x e = (refl, e)
+
+-- an answer, by its refusal number
+pub answer-fine : {A : Type 0} (r : ℕ) (fine : A) (refused : ℕ → A) → r ≡ 0 → answer r fine refused ≡ fine
+answer-fine zero fine refused e = refl
+answer-fine (suc r) fine refused e = absurd (omega arith)
+
+pub answer-refused : {A : Type 0} (r : ℕ) (fine : A) (refused : ℕ → A) → (r ≡ 0 → ⊥) → answer r fine refused ≡ refused r
+answer-refused zero fine refused n = absurd (n refl)
+answer-refused (suc r) fine refused n = refl
+
+-- The table of each call: its numbers in their order ------------------------------------------------------------------
+
+abbrev pub numbers : List Case → List ℕ
+numbers = map (λ c. c .number)
+
+pub reach-table : (p t : Micrometres) → numbers (reachCases p t) ≡ 2 ∷ 3 ∷ []
+unfolding reachCases
+reach-table p t = refl
+
+pub plan-table : (s : Settings) (part : List ℕ) (a b : ℕ) → numbers (planCases s part a b) ≡ 1 ∷ 2 ∷ 3 ∷ 4 ∷ 5 ∷ 6 ∷ 7 ∷ []
+unfolding planCases settingCases reachCases lengthCases
+plan-table s part a b = refl
+
+pub judge-table : (s : Settings) (part support : List ℕ) (a : ℕ) → numbers (judgeCases s part support a) ≡ 1 ∷ 2 ∷ 3 ∷ 4 ∷ 5 ∷ 6 ∷ 7 ∷ 8 ∷ []
+unfolding judgeCases settingCases reachCases lengthCases
+judge-table s part support a = refl
+
+-- four sections of 12, 13, 12; 1, 2, 3 after the first; then 14, 7, 8
+pub read-table : (f : List ℕ) → numbers (readCases f) ≡ 12 ∷ 13 ∷ 12 ∷ 1 ∷ 2 ∷ 3 ∷ 12 ∷ 13 ∷ 12 ∷ 12 ∷ 13 ∷ 12 ∷ 12 ∷ 13 ∷ 12 ∷ 14 ∷ 7 ∷ 8 ∷ []
+unfolding readCases sectionCases settingCases reachCases
+read-table f = refl
+
+pub copy-table : (f : List ℕ) (room : ℕ) → numbers (copyCases f room) ≡ numbers (readCases f) ++ 6 ∷ []
+unfolding copyCases readCases sectionCases settingCases reachCases
+copy-table f room = refl
+
+pub write-table : (j : Job) (room : ℕ) → numbers (writeCases j room) ≡ 1 ∷ 2 ∷ 3 ∷ 4 ∷ 5 ∷ 6 ∷ 7 ∷ 8 ∷ 15 ∷ 16 ∷ []
+unfolding writeCases settingCases reachCases
+write-table j room = refl
+
+pub report-table : (f : List ℕ) → numbers (reportCases f) ≡ 17 ∷ numbers (readCases f) ++ 17 ∷ []
+unfolding reportCases readCases sectionCases settingCases reachCases
+report-table f = refl
