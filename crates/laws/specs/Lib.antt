@@ -6,4 +6,6 @@ pub mod Soundness
 pub mod PixelBytes
 pub mod BytePixels
 pub mod Refusals
+pub mod Discs
+pub mod Limits
 pub mod Bench

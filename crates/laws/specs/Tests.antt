@@ -104,3 +104,6 @@ count-more (suc n) f g s x h p q =
     (λ t.
     let r : count n f < count n g = count-more n f g (λ y l. s y (omega arith)) x (omega (arith, eqb-false x n t)) p q in
     split (f n) (λ u. rw (u, s n (omega arith) u) (omega arith)) (λ u. rw u (omega arith)))
+
+pub some-none : (n : ℕ) (f : ℕ → Bool) → ((x : ℕ) → x < n → f x ≡ false) → some n f ≡ false
+some-none n f all = split (some n f) (λ t. let (x, h, y) = some-out n f t in clash y (all x h)) (λ t. t)

@@ -1,8 +1,8 @@
 -- Pitch, overhang and reach; distances, discs and roots.
-use mathlib.Core.Bool.{Bool, true, false, _&&_, cond}
-use mathlib.Core.List.{List, [], _∷_}
-use Prim.Native.Nat.{ℕ, zero, suc, _+_, _-_, _*_, _/_, _%_}
-use lib.Dec.{leb, ltb, eqb}
+use mathlib.Core.Bool.{Bool, _&&_}
+use Prim.Native.Nat.{ℕ, _+_, _-_, _*_, _/_, _%_}
+use lib.Dec.{leb}
+use Rattle.rules.specs.Tools.{largest}
 use Rattle.rules.specs.Images.{within}
 use Rattle.rules.specs.declared.Micrometres.{Micrometres}
 use Rattle.rules.specs.declared.Pixels.{Pixels}
@@ -32,8 +32,7 @@ distance² w p o = square (apart (p / w) (o / w)) + square (apart (p % w) (o % w
 
 -- "the largest whole number whose square is at most m"
 unfoldable pub root : ℕ → ℕ
-root zero = 0
-root (suc m) = cond (leb (square (suc (root m))) (suc m)) (suc (root m)) (root m)
+root m = largest m λ r. leb (square r) m
 
 -- "How far a disc runs to each side in a row": in a row d away from its middle, for the bound q
 unfoldable pub halfWidth : ℕ → ℕ → ℕ

@@ -18,6 +18,11 @@ unfoldable pub count : ℕ → (ℕ → Bool) → ℕ
 count zero f = 0
 count (suc n) f = bit (f n) + count n f
 
+-- the largest number up to n that passes the test, and 0 where none does
+unfoldable pub largest : ℕ → (ℕ → Bool) → ℕ
+largest zero f = 0
+largest (suc n) f = cond (f (suc n)) (suc n) (largest n f)
+
 -- f a, f (a + 1), .. : n of them
 unfoldable pub each : {A : Type 0} → ℕ → ℕ → (ℕ → A) → List A
 each a zero f = []

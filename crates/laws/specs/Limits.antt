@@ -1,0 +1,103 @@
+-- What the tests of sizes and settings say of the numbers: for each test the refusal that it gives, and for none of them the ranges.
+use mathlib.Core.Path.{_≡_}
+use mathlib.Core.Bool.{true, false, not, _&&_}
+use Prim.Native.Nat.{ℕ, _-_, _*_, _≤_}
+use native.Mathlib.Nat.{mul-le-mul}
+use native.Mathlib.Omega.{arith}
+use lib.Dec.{leb, ltb}
+use borrow.Author.Tests.{leb-true, ltb-false, not-false}
+use Rattle.rules.specs.Tools.{refusal}
+use Rattle.rules.specs.Images.{within, sized, rowBytes, rowsOf, stackBytes, ringsIn}
+use Rattle.rules.specs.Reach.{settable, reachOf}
+use Rattle.rules.specs.Calls.{reachCases, settingCases}
+use Rattle.rules.specs.declared.Micrometres.{Micrometres}
+use Rattle.rules.specs.declared.Settings.{Settings}
+use Rattle.laws.specs.Tests.{and-l, and-r}
+use Rattle.laws.specs.Refusals.{case-out}
+
+pub within-out : (low high x : ℕ) → within low high x ≡ true → (low ≤ x) × (x ≤ high)
+unfolding within
+within-out low high x e = (leb-true _ _ (and-l (leb low x) _ e), leb-true _ _ (and-r (leb low x) _ e))
+
+-- a pitch, an overhang and a reach that are not refused
+pub record Settable (p t : Micrometres) : Type 0 where
+  pub pitch-low : 10 ≤ p .0
+  pub pitch-high : p .0 ≤ 1000
+  pub overhang-high : t .0 ≤ 10000
+  pub reach-high : reachOf p t .0 ≤ 32
+
+pub settable-out : (p t : Micrometres) → refusal (reachCases p t) ≡ 0 → Settable p t
+unfolding reachCases settable
+settable-out p t e =
+    let (a, e₁) = case-out (not (settable p t)) 1 _ e in
+    let (b, e₂) = case-out (ltb 32 (reachOf p t .0)) 2 _ e₁ in
+    let s : (within 10 1000 (p .0) && leb (t .0) 10000) ≡ true = not-false _ a in
+    let (x, y) = within-out 10 1000 (p .0) (and-l _ (leb (t .0) 10000) s) in
+    record {
+      pitch-low = x;
+      pitch-high = y;
+      overhang-high = leb-true _ _ (and-r (within 10 1000 (p .0)) _ s);
+      reach-high = ltb-false _ _ b;
+    }
+
+-- sizes and settings that are not refused
+pub record Ranged (s : Settings) : Type 0 where
+  pub w-low : 1 ≤ s .w
+  pub w-high : s .w ≤ 256
+  pub h-low : 1 ≤ s .h
+  pub h-high : s .h ≤ 256
+  pub n-low : 1 ≤ s .n
+  pub n-high : s .n ≤ 512
+  pub pitch-low : 10 ≤ s .pitch .0
+  pub pitch-high : s .pitch .0 ≤ 1000
+  pub overhang-high : s .overhang .0 ≤ 10000
+  pub reach-high : reachOf (s .pitch) (s .overhang) .0 ≤ 32
+
+pub ranged : (s : Settings) → refusal (settingCases s) ≡ 0 → Ranged s
+unfolding settingCases sized
+ranged s e =
+    let (a, e₁) = case-out (not (sized s)) 0 _ e in
+    let z : (within 1 256 (s .w) && within 1 256 (s .h) && within 1 512 (s .n)) ≡ true = not-false _ a in
+    let (x, x′) = within-out 1 256 (s .w) (and-l _ (within 1 256 (s .h)) (and-l _ (within 1 512 (s .n)) z)) in
+    let (y, y′) = within-out 1 256 (s .h) (and-r (within 1 256 (s .w)) _ (and-l _ (within 1 512 (s .n)) z)) in
+    let (u, u′) = within-out 1 512 (s .n) (and-r (within 1 256 (s .w) && within 1 256 (s .h)) _ z) in
+    let k = settable-out (s .pitch) (s .overhang) e₁ in
+    record {
+      w-low = x;
+      w-high = x′;
+      h-low = y;
+      h-high = y′;
+      n-low = u;
+      n-high = u′;
+      pitch-low = k .pitch-low;
+      pitch-high = k .pitch-high;
+      overhang-high = k .overhang-high;
+      reach-high = k .reach-high;
+    }
+
+-- how large planes, stacks and ring planes can be
+pub area-most : (w h : ℕ) → w ≤ 256 → h ≤ 256 → h * w ≤ 65536
+area-most w h a b = mul-le-mul b a
+
+pub rows-most : (s : Settings) → Ranged s → rowsOf s ≤ 131072
+unfolding rowsOf
+rows-most s r = mul-le-mul (r .n-high) (r .h-high)
+
+pub row-bytes-most : (w : ℕ) → w ≤ 256 → rowBytes w ≤ 32
+unfolding rowBytes
+row-bytes-most w h = omega arith
+
+pub row-bytes-least : (w : ℕ) → 1 ≤ w → 1 ≤ rowBytes w
+unfolding rowBytes
+row-bytes-least w h = omega arith
+
+pub stack-most : (s : Settings) → Ranged s → stackBytes s ≤ 4194304
+unfolding stackBytes
+stack-most s r = mul-le-mul (rows-most s r) (row-bytes-most (s .w) (r .w-high))
+
+pub rings-most : (s : Settings) → Ranged s → ringsIn s ≤ 33488896
+unfolding ringsIn
+rings-most s r =
+    let n = r .n-high in
+    let k : s .n - 1 ≤ 511 = omega arith in
+    mul-le-mul k (area-most (s .w) (s .h) (r .w-high) (r .h-high))

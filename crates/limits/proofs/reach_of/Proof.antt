@@ -1,0 +1,22 @@
+use Prim.Native.Nat.{_/_}
+use native.Mathlib.Nat.{div-le-self}
+use Rattle.rules.specs.Reach as rule
+use native.Mathlib.Omega.{arith}
+use borrow.Author.Needs.{needs}
+use Rattle.limits.proofs.reach_of.Statement.{statement}
+use Rattle.limits.proofs.reach_of.Tie as tie
+use Rattle.limits.proofs.reach_of.Reads as reads
+use Rattle.limits.proofs.reach_of.Lts as lts
+
+div-t3 : tie.Need-div-t3
+div-t3 c = search needs
+
+cast-t4 : tie.Need-cast-t4
+cast-t4 c = omega (arith, div-le-self (c .before .before .args .overhang .0) (c .before .before .args .pitch .0))
+
+returns : tie.Need-returns
+unfolding rule.reachOf
+returns c = cc
+
+pub reach-of-spec : {M : Type 1} → statement M
+reach-of-spec = tie.close (tie.spec div-t3 cast-t4 returns)

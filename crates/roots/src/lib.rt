@@ -1,0 +1,42 @@
+// Roots from a table, and how far a disc runs to each side in a row.
+mod table;
+
+ghost use mathlib.Core.Path.{_≡_};
+ghost use Prim.Native.Nat.{_+_, _-_, _*_, _<_, _≤_};
+ghost use lib.ListN.{length};
+ghost use Rattle.rules.specs.Reach as rule;
+ghost use Rattle.laws.specs.Discs.{Halves};
+
+fn wide(x: u8) -> usize
+    ensures { λ r. ⌜ r ≡ x ⌝ }
+{
+    x as usize
+}
+
+// The root of m, from the table.
+pub fn root(m: usize) -> usize
+    requires { ⌜ m ≤ 1024 ⌝ }
+    ensures { λ r. ⌜ r ≡ rule.root m ⌝ }
+{
+    wide(table::ROOTS[m])
+}
+
+// How far the disc with squared radius q runs to each side in a row d away from its middle.
+pub fn half_width(q: usize, d: usize) -> usize
+    requires { ⌜ (d < 33) × ((d * d ≤ q) × (q ≤ 1024)) ⌝ }
+    ensures { λ r. ⌜ r ≡ rule.halfWidth q d ⌝ }
+{
+    root(q - d * d)
+}
+
+// The half-widths of the disc with squared radius q, from its middle row on.
+pub fn halves(q: usize, out: &mut [usize])
+    requires { ⌜ (q ≤ 1024) × (length (now out) ≡ 33) ⌝ }
+    ensures { λ _. ⌜ Halves q (now (out .exit)) ⌝ }
+{
+    let mut d: usize = 0;
+    while d * d <= q {
+        out[d] = half_width(q, d);
+        d += 1;
+    }
+}
