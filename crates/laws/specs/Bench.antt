@@ -1,13 +1,13 @@
--- The bench pieces marked * in 01, as one list: planned and checked by the definitions of the calls themselves.
+-- The bench pieces marked * in 01, as one list, and the limits that 01 names: all by the definitions of the calls themselves.
 use mathlib.Core.Path.{_≡_, refl}
 use mathlib.Core.List.{List, [], _∷_, map}
 use Prim.Native.Nat.{ℕ}
-use Rattle.rules.specs.Tools.{bit, some, each, joinedUp, first}
+use Rattle.rules.specs.Tools.{bit, some, each, joinedUp, first, refusal}
 use Rattle.rules.specs.Images.{within, sized, rowBytes, bitAt, pixel, rowsOf, stackBytes, paddingSet, byteOf, bytesOf, ringsIn, ringAt}
 use Rattle.rules.specs.Reach.{settable, reachOf, square, boundOf, apart, distance²}
 use Rattle.rules.specs.Planning.{shadow, near, seeds, reached, touch, source, touching, fits, grow, grown, ringPlane, rings, excused, supportUnder, topOf, planned, empty, plannedRings, plannedBytes}
 use Rattle.rules.specs.Judging.{overlap, badRing, unheld, firstIn, placeOf, tell, verdict, verdictOf}
-use Rattle.rules.specs.Calls.{reachCases, settingCases, lengthCases, planCases, planRefusal, planAnswer, planSupport, planRings, judgeCases, judgeAnswer, saysPlanned, saysJudged}
+use Rattle.rules.specs.Calls.{reachCases, reachAnswer, saysReached, settingCases, lengthCases, planCases, planRefusal, planAnswer, planSupport, planRings, judgeCases, judgeAnswer, saysPlanned, saysJudged}
 use Rattle.rules.specs.declared.Settings.{Settings}
 
 -- a piece: W, H, N, t and the part to plan; or a support and rings to check against piece b
@@ -72,3 +72,44 @@ pub bench-pieces : map run (
     ∷ []
 unfolding bit some each joinedUp first within sized rowBytes bitAt pixel rowsOf stackBytes paddingSet byteOf bytesOf ringsIn ringAt settable reachOf square boundOf apart distance² shadow near seeds reached touch source touching fits grow grown ringPlane rings excused supportUnder topOf planned empty plannedRings plannedBytes overlap badRing unheld firstIn placeOf tell verdict verdictOf reachCases settingCases lengthCases planCases planRefusal planAnswer planSupport planRings judgeCases judgeAnswer settings lent run ringsOfB none
 bench-pieces = refl
+
+-- Limits ---------------------------------------------------------------------------------------------------------------
+
+pub reaches : ℕ → ℕ → List ℕ
+reaches p t = saysReached (reachAnswer (record { 0 = p }) (record { 0 = t }))
+
+-- "p 101, t 510 gives R 5; p 135, t 3,810 gives R 28"; "p 50: t 1,649 gives R 32, t 1,650 is 3. t 0 and t = p−1 give R 0";
+-- and the ends of both ranges, 2 before 3
+pub reach-limits :
+    reaches 101 510 ∷ reaches 135 3810 ∷ reaches 50 1649 ∷ reaches 50 1650 ∷ reaches 100 0 ∷ reaches 100 99
+    ∷ reaches 10 320 ∷ reaches 9 10000 ∷ reaches 1000 10000 ∷ reaches 1001 10000 ∷ reaches 10 10000 ∷ reaches 10 10001 ∷ reaches 0 0
+    ∷ []
+    ≡ (0 ∷ 5 ∷ []) ∷ (0 ∷ 28 ∷ []) ∷ (0 ∷ 32 ∷ []) ∷ (3 ∷ []) ∷ (0 ∷ 0 ∷ []) ∷ (0 ∷ 0 ∷ [])
+    ∷ (0 ∷ 32 ∷ []) ∷ (2 ∷ []) ∷ (0 ∷ 10 ∷ []) ∷ (2 ∷ []) ∷ (3 ∷ []) ∷ (2 ∷ []) ∷ (2 ∷ [])
+    ∷ []
+unfolding within settable reachOf reachCases reachAnswer reaches
+reach-limits = refl
+
+pub sizes : ℕ → ℕ → ℕ → ℕ
+sizes w h n = refusal (settingCases (settings w h n 200))
+
+-- "W 256 passes, 257 is 1", and the other ends of the three ranges
+pub size-limits :
+    sizes 256 1 1 ∷ sizes 257 1 1 ∷ sizes 0 1 1 ∷ sizes 1 256 1 ∷ sizes 1 257 1 ∷ sizes 1 0 1 ∷ sizes 1 1 512 ∷ sizes 1 1 513 ∷ sizes 1 1 0 ∷ []
+    ≡ 0 ∷ 1 ∷ 1 ∷ 0 ∷ 1 ∷ 1 ∷ 0 ∷ 1 ∷ 1 ∷ []
+unfolding within sized settable reachOf reachCases settingCases settings sizes
+size-limits = refl
+
+pub checks : List ℕ → List ℕ → List ℕ → List ℕ
+checks part sup ring = saysJudged (judgeAnswer (settings 8 1 2 200) part sup ring)
+
+-- "Overlap anywhere comes before any bad ring, and any bad ring before any unheld pixel", and a ring 1 leans on a seed that carries
+-- no ring
+pub judging-order :
+    checks (0xE0 ∷ 0xFF ∷ []) (0x23 ∷ 0x00 ∷ []) (0 ∷ 0 ∷ 0 ∷ 1 ∷ 1 ∷ 0 ∷ 0 ∷ 0 ∷ [])
+    ∷ checks (0xE0 ∷ 0xFF ∷ []) (0x03 ∷ 0x00 ∷ []) (0 ∷ 0 ∷ 0 ∷ 1 ∷ 1 ∷ 0 ∷ 0 ∷ 0 ∷ [])
+    ∷ checks (0x07 ∷ 0xFF ∷ []) (0xE0 ∷ 0x00 ∷ []) (0 ∷ 0 ∷ 0 ∷ 0 ∷ 1 ∷ 9 ∷ 0 ∷ 0 ∷ [])
+    ∷ []
+    ≡ (9 ∷ 0 ∷ 0 ∷ 2 ∷ []) ∷ (10 ∷ 1 ∷ 0 ∷ 4 ∷ []) ∷ (10 ∷ 1 ∷ 0 ∷ 4 ∷ []) ∷ []
+unfolding some first within sized rowBytes bitAt pixel rowsOf stackBytes paddingSet ringsIn ringAt settable reachOf square boundOf apart distance² shadow near seeds reached touch source touching fits overlap badRing unheld firstIn placeOf tell verdict verdictOf reachCases settingCases lengthCases judgeCases judgeAnswer settings checks
+judging-order = refl

@@ -1,5 +1,6 @@
 -- Bytes without padding bits are given back by their pixels: so a stack of bytes is settled by its pixels.
 use mathlib.Core.Path.{_≡_, refl, sym, ap, _∙_}
+use mathlib.Core.Logic.{_↔_}
 use mathlib.Core.Bool.{Bool, true, false, not, _&&_, _||_}
 use mathlib.Core.List.{List, [], _∷_, _++_}
 use Prim.Native.Nat.{ℕ, zero, suc, _+_, _-_, _*_, _/_, _%_, _^_, _≤_, _<_}
@@ -14,7 +15,7 @@ use lib.Seq.{ext-getD}
 use borrow.Author.Tests.{eqb-true, eqb-false, ltb-true, ltb-false, eq-eqb, ne-eqb, lt-ltb, le-ltb}
 use Rattle.rules.specs.Images.{Plane, Stack, rowBytes, bitAt, pixel, paddingSet, byteOf, bytesOf}
 use Rattle.rules.specs.Tools.{bit, some, each}
-use Rattle.laws.specs.Tests.{split, clash, some-in, not-in, getD-each, length-each}
+use Rattle.laws.specs.Tests.{split, clash, some-in, not-in, getD-each, length-each, each-same}
 use Rattle.laws.specs.Places.{digits-in}
 
 bit-of : (y : ℕ) → y < 2 → bit (eqb y 1) ≡ y
@@ -74,3 +75,33 @@ bytes-pixel w h n l lh len small clear =
     let z : b / rowBytes w * rowBytes w + b % rowBytes w ≡ b = div-add-mod' b (rowBytes w) in
     getD-each 0 (n * h * rowBytes w) (λ b. byteOf w h (pixel w h l) (b / rowBytes w) (b % rowBytes w) 8) b 0 lb′
     ∙ rw (zero-add b, byte-at w h n l clear (b / rowBytes w) (b % rowBytes w) 8 0 lh lr lj (rw z (small b (omega arith))) refl, z, div-one))
+
+-- the bytes of a stack look only at the pixels that exist
+byte-same : (w h n : ℕ) (s t : Stack) → ((i p : ℕ) → i < n → p < h * w → s i p ≡ t i p) → (row j k : ℕ) → 0 < h → row < n * h → byteOf w h s row j k ≡ byteOf w h t row j k
+unfolding byteOf
+byte-same w h n s t e row j zero lh lr = refl
+byte-same w h n s t e row j (suc k) lh lr =
+    let (li, ly) = digits-in row n h lr in
+    rw (byte-same w h n s t e row j k lh lr)
+    (split (ltb (8 * j + k) w)
+    (λ b. rw (b, e (row / h) (row % h * w + (8 * j + k)) li (digits-lt ly (ltb-true (8 * j + k) w b))))
+    (λ b. rw b))
+
+pub bytes-same : (w h n : ℕ) (s t : Stack) → 0 < h → ((i p : ℕ) → i < n → p < h * w → s i p ≡ t i p) → bytesOf w h n s ≡ bytesOf w h n t
+unfolding bytesOf
+bytes-same w h n s t lh e =
+    each-same 0 (n * h * rowBytes w) _ _ (λ b lb.
+    let (lr, lj) = digits-in b (n * h) (rowBytes w) lb in
+    rw zero-add (byte-same w h n s t e (b / rowBytes w) (b % rowBytes w) 8 lh lr))
+
+-- the same pixels mean the same bytes where padding is clear, so equations on bytes and statements on pixels say the same
+pub same-pixels : (w h n : ℕ) (a b : List ℕ) → 0 < h → length a ≡ n * h * rowBytes w → length b ≡ n * h * rowBytes w →
+    ((x : ℕ) → x < length a → getD a x 0 < 256) → ((x : ℕ) → x < length b → getD b x 0 < 256) → paddingSet w (n * h) a ≡ false → paddingSet w (n * h) b ≡ false →
+    (a ≡ b) ↔ ((i p : ℕ) → i < n → p < h * w → pixel w h a i p ≡ pixel w h b i p)
+same-pixels w h n a b lh la lb sa sb ca cb = (
+  (λ e i p li lp. rw e),
+  (λ s.
+      sym (bytes-pixel w h n a lh la sa ca)
+      ∙ bytes-same w h n (pixel w h a) (pixel w h b) lh s
+      ∙ bytes-pixel w h n b lh lb sb cb),
+)

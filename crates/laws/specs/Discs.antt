@@ -33,7 +33,7 @@ pub square-mono : (a b : ℕ) → a ≤ b → square a ≤ square b
 unfolding square
 square-mono a b l = mul-le-mul l l
 
-square-grows : (a : ℕ) → a ≤ square a
+pub square-grows : (a : ℕ) → a ≤ square a
 unfolding square
 square-grows zero = omega arith
 square-grows (suc a) =

@@ -1,5 +1,4 @@
 pub mod Tests
-pub mod Neighbours
 pub mod Growing
 pub mod Places
 pub mod Soundness
@@ -7,5 +6,8 @@ pub mod PixelBytes
 pub mod BytePixels
 pub mod Refusals
 pub mod Discs
+pub mod Neighbours
 pub mod Limits
+pub mod Chapter
+pub mod ReportLaws
 pub mod Bench

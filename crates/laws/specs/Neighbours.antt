@@ -1,15 +1,18 @@
--- Neighbours and distances by rows and columns, without subtraction.
+-- Neighbours and distances by rows and columns, without subtraction; and that reach 0 excuses nothing.
 use mathlib.Core.Path.{_≡_, refl, sym, ap, _∙_}
 use mathlib.Core.Logic.{_≢_, _↔_}
 use mathlib.Core.Bool.{Bool, true, false, not, _&&_, _||_}
 use Prim.Native.Nat.{ℕ, zero, suc, _+_, _-_, _*_, _/_, _%_, _^_, _≤_, _<_}
+use native.Mathlib.Nat.{div-add-mod'}
 use native.Mathlib.Omega.{arith}
 use lib.Arith.{digits-lt, digits-div, digits-mod}
 use lib.Dec.{leb, ltb, eqb}
 use borrow.Author.Tests.{eqb-true, eqb-false, ne-eqb, le-leb, leb-true}
-use Rattle.rules.specs.Planning.{touch}
+use Rattle.rules.specs.Images.{Plane}
+use Rattle.rules.specs.Planning.{touch, shadow, near, reached}
 use Rattle.rules.specs.Reach.{apart, distance²}
-use Rattle.laws.specs.Tests.{split, clash, and-l, and-r, and-in, not-in, not-out}
+use Rattle.laws.specs.Tests.{split, clash, and-l, and-r, and-in, not-in, not-out, some-out}
+use Rattle.laws.specs.Discs.{square-grows}
 
 -- the pixel in row r and column c touches the one in row s and column d
 pub record Touching (r c s d : ℕ) : Type 0 where
@@ -47,3 +50,23 @@ pub touch-in : (w r c s d : ℕ) → c < w → d < w → Touching r c s d → to
 touch-in w r c s d lc ld t =
     let z : eqb (r * w + c) (s * w + d) ≡ false = ne-eqb (r * w + c) (s * w + d) (λ e. let (x, y) = same-pixel w r c s d lc ld e in t .other x y) in
     touch-is w r c s d lc ld ∙ rw (apart-in r s (t .up) (t .down), apart-in c d (t .left) (t .right), z)
+
+same-number : (w p o : ℕ) → p / w ≡ o / w → p % w ≡ o % w → p ≡ o
+same-number w p o r c = sym (div-add-mod' p w) ∙ rw (r, c) (div-add-mod' o w)
+
+no-gap : (a b : ℕ) → apart a b ≤ 0 → a ≡ b
+unfolding apart
+no-gap a b h = omega arith
+
+-- "t 0 and t = p−1 give R 0, which excuses nothing": no shadow pixel is near
+pub reach-none : (w h : ℕ) (low up : Plane) (p : ℕ) → reached w h 0 low up p ≡ false
+unfolding reached near shadow distance²
+reach-none w h low up p = split (reached w h 0 low up p)
+    (λ t.
+    let (o, lo, e) = some-out (h * w) (λ o. low o && leb (distance² w p o) 0) (and-r (shadow low up p) _ t) in
+    let z : distance² w p o ≤ 0 = leb-true _ _ (and-r (low o) _ e) in
+    let rows : p / w ≡ o / w = no-gap (p / w) (o / w) (omega (arith, square-grows (apart (p / w) (o / w)))) in
+    let columns : p % w ≡ o % w = no-gap (p % w) (o % w) (omega (arith, square-grows (apart (p % w) (o % w)))) in
+    let same : p ≡ o = same-number w p o rows columns in
+    clash (rw (← same) at (and-l (low o) _ e)) (not-out (low p) (and-r (up p) _ (and-l (shadow low up p) _ t))))
+    (λ t. t)

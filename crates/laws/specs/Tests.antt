@@ -51,6 +51,22 @@ or-cases true b c e f g k = f refl
 or-cases false true c e f g k = g refl
 or-cases false false c e f g k = k e
 
+pub or-none : (a b : Bool) → (a || b) ≡ false → b ≡ false
+or-none true b e = clash refl e
+or-none false b e = e
+
+pub or-false : (a : Bool) → (a || false) ≡ a
+or-false true = refl
+or-false false = refl
+
+pub and-true : (a : Bool) → (a && true) ≡ a
+and-true true = refl
+and-true false = refl
+
+pub and-false : (a : Bool) → (a && false) ≡ false
+and-false true = refl
+and-false false = refl
+
 pub not-in : (a : Bool) → a ≡ false → not a ≡ true
 not-in a p = rw p
 
@@ -107,3 +123,11 @@ count-more (suc n) f g s x h p q =
 
 pub some-none : (n : ℕ) (f : ℕ → Bool) → ((x : ℕ) → x < n → f x ≡ false) → some n f ≡ false
 some-none n f all = split (some n f) (λ t. let (x, h, y) = some-out n f t in clash y (all x h)) (λ t. t)
+
+pub each-same : {A : Type 0} (a n : ℕ) (f g : ℕ → A) → ((i : ℕ) → i < n → f (a + i) ≡ g (a + i)) → each a n f ≡ each a n g
+unfolding each
+each-same a zero f g s = refl
+each-same a (suc n) f g s =
+    let z : a + 0 ≡ a = omega arith in
+    let e : f a ≡ g a = rw z at (s 0 (omega arith)) in
+    rw (e, each-same (suc a) n f g (λ i h. let y : a + suc i ≡ suc a + i = omega arith in rw y at (s (suc i) (omega arith))))

@@ -1,0 +1,53 @@
+-- The report: its example, and that a printed number is the number.
+use mathlib.Core.Path.{_≡_, refl, sym, ap, _∙_}
+use mathlib.Core.Bool.{Bool, true, false, cond}
+use mathlib.Core.List.{List, [], _∷_, _++_}
+use Prim.Native.Nat.{ℕ, zero, suc, _+_, _-_, _*_, _/_, _%_, _≤_, _<_}
+use native.Mathlib.Omega.{arith}
+use lib.Dec.{ltb}
+use borrow.Author.Tests.{ltb-true, ltb-false}
+use Rattle.rules.specs.Tools.{bit, some, count, each, joinedUp}
+use Rattle.rules.specs.Images.{within, sized, rowBytes, bitAt, pixel, rowsOf, stackBytes, paddingSet, byteOf, bytesOf, ringsIn, ringAt}
+use Rattle.rules.specs.Reach.{settable, reachOf, square, boundOf, apart, distance²}
+use Rattle.rules.specs.Planning.{shadow, near, seeds, reached, touch, source, touching, fits, grow, grown, ringPlane, rings, excused, supportUnder, topOf, planned, empty, plannedRings, plannedBytes}
+use Rattle.rules.specs.Jobs.{headEnd, partEnd, supportCount, supportEnd, ringCount, jobEnd, settingsIn, storedIn, partIn, supportIn}
+use Rattle.rules.specs.Calls.{reachCases, settingCases, sectionCases, readCases}
+use Rattle.rules.specs.Report.{digits, decimal, spaced, newline, refusedLine, jobLine, filled, excusedAbove, layerLine, planLines, reportCases, reportOf}
+use Rattle.laws.specs.Tests.{split}
+
+-- "Input (28 bytes, hexadecimal) .. Whole output": `job 8 1 2 reach 2`, `1 8 0 0`, `0 3 3 2`
+pub report-example :
+    reportOf (
+    0x00 ∷ 0x00 ∷ 0x00 ∷ 0x05 ∷ 0x00 ∷ 0x08 ∷ 0x00 ∷ 0x01 ∷ 0x00 ∷ 0x02 ∷ 0x00 ∷ 0x64 ∷ 0x00 ∷ 0xC8 ∷
+    0x00 ∷ 0x00 ∷ 0x00 ∷ 0x02 ∷ 0xE0 ∷ 0xFF ∷ 0x00 ∷ 0x00 ∷ 0x00 ∷ 0x00 ∷ 0x00 ∷ 0x00 ∷ 0x00 ∷ 0x00 ∷ [])
+    ≡ 106 ∷ 111 ∷ 98 ∷ 32 ∷ 56 ∷ 32 ∷ 49 ∷ 32 ∷ 50 ∷ 32 ∷ 114 ∷ 101 ∷ 97 ∷ 99 ∷ 104 ∷ 32 ∷ 50 ∷ 10
+    ∷ 49 ∷ 32 ∷ 56 ∷ 32 ∷ 48 ∷ 32 ∷ 48 ∷ 10
+    ∷ 48 ∷ 32 ∷ 51 ∷ 32 ∷ 51 ∷ 32 ∷ 50 ∷ 10
+    ∷ []
+unfolding bit some count each joinedUp within sized rowBytes bitAt pixel rowsOf stackBytes paddingSet byteOf bytesOf ringsIn ringAt settable reachOf square boundOf apart distance² shadow near seeds reached touch source touching fits grow grown ringPlane rings excused supportUnder topOf planned empty plannedRings plannedBytes headEnd partEnd supportCount supportEnd ringCount jobEnd settingsIn storedIn partIn supportIn reachCases settingCases sectionCases readCases digits decimal spaced refusedLine jobLine filled excusedAbove layerLine planLines reportCases reportOf
+report-example = refl
+
+-- the number that a run of digits stands for, after what came before it
+unfoldable pub valueFrom : ℕ → List ℕ → ℕ
+valueFrom v [] = v
+valueFrom v (d ∷ ds) = valueFrom (v * 10 + (d - 48)) ds
+
+value-append : (v : ℕ) (a b : List ℕ) → valueFrom v (a ++ b) ≡ valueFrom (valueFrom v a) b
+unfolding valueFrom
+value-append v [] b = refl
+value-append v (d ∷ a) b = value-append (v * 10 + (d - 48)) a b
+
+digits-value : (k x : ℕ) → x < k → valueFrom 0 (digits k x) ≡ x
+unfolding digits valueFrom
+digits-value zero x h = absurd (omega arith)
+digits-value (suc k) x h =
+    split (ltb x 10)
+    (λ t. let l : x < 10 = ltb-true x 10 t in rw t (omega arith))
+    (λ t.
+    let l : 10 ≤ x = ltb-false x 10 t in
+    rw (t, value-append, digits-value k (x / 10) (omega arith)) (omega arith))
+
+-- a printed number is the number
+pub decimal-value : (x : ℕ) → valueFrom 0 (decimal x) ≡ x
+unfolding decimal
+decimal-value x = digits-value (suc x) x (omega arith)
