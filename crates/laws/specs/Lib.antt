@@ -11,3 +11,5 @@ pub mod Limits
 pub mod Chapter
 pub mod ReportLaws
 pub mod Bench
+pub mod RingsFit
+pub mod Demand3
