@@ -27,6 +27,7 @@ use Rattle.laws.specs.Refusals.{numbered, orElse, else-both, refusal-app
 use Rattle.laws.specs.Soundness.{ringsOf, accepted-iff, sound-accepted, rings-length}
 use Rattle.laws.specs.PixelBytes.{plannedBytes-accepted, plannedBytes-least}
 use Rattle.laws.specs.RingsFit.{rings-fit}
+use Rattle.laws.specs.Limits.{ranged, area-most}
 
 -- The bytes of a stack have no padding ------------------------------------------------------------------------------------
 
@@ -139,19 +140,9 @@ plan-out s part a b e =
     let (f, e₇) = case-out (paddingSet (s .w) (rowsOf s) part) 6 _ e₆ in
     (z, right-length _ _ l, f)
 
-within-out : (low high x : ℕ) → within low high x ≡ true → (low ≤ x) × (x ≤ high)
-unfolding within
-within-out low high x e = (leb-true low x (and-l (leb low x) _ e), leb-true x high (and-r (leb low x) _ e))
-
 -- a width of at least 1, and at most 65,536 pixels to a plane
 small : (s : Settings) → refusal (settingCases s) ≡ 0 → (0 < s .w) × (s .h * s .w ≤ 65536)
-unfolding settingCases sized
-small s e =
-    let S : Bool = within 1 256 (s .w) && within 1 256 (s .h) in
-    let t : (S && within 1 512 (s .n)) ≡ true = split (S && within 1 512 (s .n)) (λ t. t) (λ f. clash (rw f) (case-out (not (S && within 1 512 (s .n))) 0 _ e .0)) in
-    let (a, b) = within-out 1 256 (s .w) (and-l _ (within 1 256 (s .h)) (and-l S _ t)) in
-    let (c, d) = within-out 1 256 (s .h) (and-r (within 1 256 (s .w)) _ (and-l S _ t)) in
-    (a, mul-le-mul d b)
+small s e = let r = ranged s e in (r .w-low, area-most (s .w) (s .h) (r .w-high) (r .h-high))
 
 -- Demand 3 ------------------------------------------------------------------------------------------------------------------
 
