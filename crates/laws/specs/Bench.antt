@@ -73,6 +73,11 @@ pub bench-pieces : map run (
 unfolding bit some each joinedUp first within sized rowBytes bitAt pixel rowsOf stackBytes paddingSet byteOf bytesOf ringsIn ringAt settable reachOf square boundOf apart distance² shadow near seeds reached touch source touching fits grow grown ringPlane rings excused supportUnder topOf planned empty plannedRings plannedBytes overlap badRing unheld firstIn placeOf tell verdict verdictOf reachCases settingCases lengthCases planCases planRefusal planAnswer planSupport planRings judgeCases judgeAnswer settings lent run ringsOfB none
 bench-pieces = refl
 
+-- "one of its eight neighbours": a pixel joined by its corner alone is excused
+pub corner-joins : run (plan 2 2 2 200 (0x80 ∷ 0x00 ∷ 0x80 ∷ 0x40 ∷ [])) ≡ plans (0 ∷ []) (0x00 ∷ 0x00 ∷ 0x00 ∷ 0x00 ∷ []) (0 ∷ 0 ∷ 0 ∷ 1 ∷ [])
+unfolding bit some each joinedUp first within sized rowBytes bitAt pixel rowsOf stackBytes paddingSet byteOf bytesOf ringsIn ringAt settable reachOf square boundOf apart distance² shadow near seeds reached touch source touching fits grow grown ringPlane rings excused supportUnder topOf planned empty plannedRings plannedBytes overlap badRing unheld firstIn placeOf tell verdict verdictOf reachCases settingCases lengthCases planCases planRefusal planAnswer planSupport planRings judgeCases judgeAnswer settings lent run
+corner-joins = refl
+
 -- Limits ---------------------------------------------------------------------------------------------------------------
 
 pub reaches : ℕ → ℕ → List ℕ
