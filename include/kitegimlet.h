@@ -1,0 +1,84 @@
+/* Kitegimlet: support for 3D printing, planned and judged, from stacks of black-and-white layer images.
+ *
+ * Every call takes every input, whatever its numbers, lengths and bytes, and ends with a defined answer. No call allocates, keeps
+ * anything between calls, or touches memory that it was not lent. Where a call refuses, all lent memory is as it was before.
+ * A buffer is a pointer and the number of its elements; with 0 elements the pointer may be null. Buffers that a call writes must
+ * not overlap any other buffer of that call.
+ *
+ * Images: a row is (w + 7) / 8 bytes, the highest bit being the leftmost pixel, 1 meaning filled, unused low bits 0. A plane is h rows,
+ * row 0 first; a stack is n planes, layer 0 first, so n * h * ((w + 7) / 8) bytes. Rings: n - 1 planes of w * h numbers of 16 bits; plane i
+ * belongs to the layers i and i + 1. Sizes w, h: 1 to 256; n: 1 to 512. Pitch (pixel width): 10 to 1,000 micrometres; overhang: 0 to
+ * 10,000 micrometres. The help page docs/REFUSALS.md has every refusal number with what to do about it.
+ */
+#ifndef KITEGIMLET_H
+#define KITEGIMLET_H
+
+#include <stdint.h>
+
+#ifdef __cplusplus
+extern "C" {
+#endif
+
+/* An answer: the refusal number in bits 0 to 15, 0 for none, and values above it. Which values a call gives is said at the call;
+ * a refusal carries its place where it has one (9, 10, 11) and else nothing. */
+typedef uint64_t kg_answer;
+
+static inline unsigned kg_number(kg_answer a) { return (unsigned)(a & 0xFFFFu); }
+static inline unsigned kg_layer(kg_answer a) { return (unsigned)(a >> 16 & 0xFFFFu); }
+static inline unsigned kg_row(kg_answer a) { return (unsigned)(a >> 32 & 0xFFFFu); }
+static inline unsigned kg_column(kg_answer a) { return (unsigned)(a >> 48 & 0xFFFFu); }
+static inline uint64_t kg_value(kg_answer a) { return a >> 16; }
+
+/* The reach of an overhang, in whole pixels: kg_value. Refusals 2, 3. */
+kg_answer kg_reach(uint32_t pitch, uint32_t overhang);
+
+/* Plans support and rings for a part. Support must have the part's length and rings (n - 1) * w * h numbers; what they held does not
+ * matter, and all of both is written. Refusals 1 to 7. */
+kg_answer kg_plan(uint64_t w, uint64_t h, uint64_t n, uint32_t pitch, uint32_t overhang,
+                  const uint8_t *part, uint64_t part_len,
+                  uint8_t *support, uint64_t support_len,
+                  uint16_t *rings, uint64_t rings_len);
+
+/* Judges support that anyone made: 0 where it holds. Refusals 1 to 8; then 9 (a support pixel inside the part), 10 (a ring number that is
+ * wrong) and 11 (a pixel that hangs), each with its first place: kg_layer, kg_row, kg_column. */
+kg_answer kg_check(uint64_t w, uint64_t h, uint64_t n, uint32_t pitch, uint32_t overhang,
+                   const uint8_t *part, uint64_t part_len,
+                   const uint8_t *support, uint64_t support_len,
+                   const uint16_t *rings, uint64_t rings_len);
+
+/* What reading a job file tells, in this order: w, h, n, pitch, overhang, whether support is stored (0 or 1), and the offsets of the first
+ * byte after the count of sections 1 to 4 (settings, part, support, rings). */
+enum kg_told {
+    KG_W, KG_H, KG_N, KG_PITCH, KG_OVERHANG, KG_STORED, KG_SETTINGS_AT, KG_PART_AT, KG_SUPPORT_AT, KG_RINGS_AT, KG_TOLD
+};
+
+/* Reads a job file. Where it is not refused, `told` gets the values of enum kg_told, as many as it has room for; further elements stay.
+ * Refusals 12, 13, 14, 1, 2, 3, 7, 8 in reading order. */
+kg_answer kg_read(const uint8_t *file, uint64_t file_len, uint64_t *told, uint64_t told_len);
+
+/* A stretch of a job file: its offset in the upper half, its length in the lower; all 0 where the job is refused or none is stored. */
+typedef uint64_t kg_stretch;
+
+static inline uint64_t kg_offset(kg_stretch s) { return s >> 32; }
+static inline uint64_t kg_length(kg_stretch s) { return s & 0xFFFFFFFFu; }
+
+kg_stretch kg_part(const uint8_t *file, uint64_t file_len);
+kg_stretch kg_support(const uint8_t *file, uint64_t file_len);
+
+/* Copies the rings out of a job file; `rings` must have exactly the stored number (0 where none is stored). Refusals: those of kg_read,
+ * then 6. */
+kg_answer kg_copy_rings(const uint8_t *file, uint64_t file_len, uint16_t *rings, uint64_t rings_len);
+
+/* Writes a job at the start of `out` and answers its length: kg_value. Without support its length and that of the rings are 0. Bytes of
+ * `out` past the job stay. Refusals 1 to 8, 15, 16. */
+kg_answer kg_write(uint64_t w, uint64_t h, uint64_t n, uint32_t pitch, uint32_t overhang,
+                   const uint8_t *part, uint64_t part_len,
+                   const uint8_t *support, uint64_t support_len,
+                   const uint16_t *rings, uint64_t rings_len,
+                   uint8_t *out, uint64_t out_len);
+
+#ifdef __cplusplus
+}
+#endif
+
+#endif
