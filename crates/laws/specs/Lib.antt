@@ -18,3 +18,4 @@ pub mod PixelBytes
 pub mod BytePixels
 pub mod Numbers
 pub mod JobFiles
+pub mod Runs

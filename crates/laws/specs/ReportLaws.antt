@@ -2,10 +2,11 @@
 use mathlib.Core.Path.{_≡_, refl, sym, ap, _∙_}
 use mathlib.Core.Bool.{Bool, true, false, cond}
 use mathlib.Core.List.{List, [], _∷_, _++_}
-use Prim.Native.Nat.{ℕ, zero, suc, _+_, _-_, _*_, _/_, _%_, _≤_, _<_}
+use Prim.Native.Nat.{ℕ, zero, suc, _+_, _-_, _*_, _/_, _%_, _^_, _≤_, _<_}
 use native.Mathlib.Omega.{arith}
 use lib.Dec.{ltb}
-use borrow.Author.Tests.{ltb-true, ltb-false}
+use lib.ListN.{length, length-append}
+use borrow.Author.Tests.{ltb-true, ltb-false, lt-ltb, le-ltb}
 use Rattle.rules.specs.Tools.{bit, some, count, each, joinedUp}
 use Rattle.rules.specs.Images.{within, sized, rowBytes, bitAt, pixel, rowsOf, stackBytes, paddingSet, byteOf, bytesOf, ringsIn, ringAt}
 use Rattle.rules.specs.Reach.{settable, reachOf, square, boundOf, apart, distance²}
@@ -51,3 +52,33 @@ digits-value (suc k) x h =
 pub decimal-value : (x : ℕ) → valueFrom 0 (decimal x) ≡ x
 unfolding decimal
 decimal-value x = digits-value (suc x) x (omega arith)
+
+-- The digits of a number come from those of its tenth -------------------------------------------------------------------------
+
+digits-fuel : (k j x : ℕ) → x < k → x < j → digits k x ≡ digits j x
+unfolding digits
+digits-fuel zero j x h l = absurd (omega arith)
+digits-fuel (suc k) zero x h l = absurd (omega arith)
+digits-fuel (suc k) (suc j) x h l =
+    split (ltb x 10) (λ t. rw t)
+    (λ t. let m : 10 ≤ x = ltb-false x 10 t in rw (t, digits-fuel k j (x / 10) (omega arith) (omega arith)))
+
+pub decimal-small : (x : ℕ) → x < 10 → decimal x ≡ (48 + x) ∷ []
+unfolding decimal digits
+decimal-small x h = let e : x % 10 ≡ x = omega arith in rw (lt-ltb x 10 h, e)
+
+pub decimal-more : (x : ℕ) → 10 ≤ x → decimal x ≡ decimal (x / 10) ++ (48 + x % 10) ∷ []
+unfolding decimal digits
+decimal-more x h = rw (le-ltb x 10 h) (ap (λ (l : List ℕ). l ++ (48 + x % 10) ∷ []) (digits-fuel x (suc (x / 10)) (x / 10) (omega arith) (omega arith)))
+
+-- a number below 10 ^ 5 has at most five digits
+longer : (x n : ℕ) → (10 ≤ x → length (decimal (x / 10)) ≤ n) → length (decimal x) ≤ suc n
+longer x n h =
+    split (ltb x 10)
+    (λ t. rw (decimal-small x (ltb-true x 10 t)) (omega arith))
+    (λ t. let l : 10 ≤ x = ltb-false x 10 t in rw (decimal-more x l) (simp length-append (omega (arith, h l))))
+
+pub decimal-length : (x : ℕ) → x < 100000 → length (decimal x) ≤ 5
+decimal-length x h =
+    longer x 4 (λ a. longer (x / 10) 3 (λ b. longer (x / 10 / 10) 2 (λ c. longer (x / 10 / 10 / 10) 1 (λ d.
+    longer (x / 10 / 10 / 10 / 10) 0 (λ e. absurd (omega arith))))))
