@@ -1,0 +1,108 @@
+// The text of the report: words and numbers in decimal, each written at a place of a lent buffer; and its lines.
+ghost use mathlib.Core.Path.{_≡_};
+ghost use mathlib.Core.List.{[], _∷_, _++_};
+ghost use Prim.Native.Nat.{_+_, _-_, _*_, _<_, _≤_};
+ghost use lib.ListN.{length};
+ghost use Rattle.rules.specs.Jobs.{over};
+ghost use Rattle.rules.specs.Report.{decimal, spaced, refusedLine, jobLine};
+ghost use Rattle.lines.specs.Lines.{lineOf};
+use limits::reach_of;
+use rules::Settings;
+
+// A digit as the byte that prints it.
+fn digit(x: usize) -> u8
+    requires { ⌜ x < 10 ⌝ }
+    ensures { λ r. ⌜ r ≡ 48 + x ⌝ }
+{
+    48 + (x as u8)
+}
+
+// Each of these writes from `at` on and answers where the text ends.
+
+fn put_decimal(out: &mut [u8], at: usize, x: usize) -> usize
+    requires { ⌜ at + length (decimal x) ≤ length (now out) ⌝ }
+    ensures { λ r. ⌜ (r ≡ at + length (decimal x)) × (now (out .exit) ≡ over (now (out .entry)) at (decimal x)) ⌝ }
+{
+    if x < 10 {
+        out[at] = digit(x);
+        return at + 1;
+    }
+    let end = put_decimal(out, at, x / 10);
+    out[end] = digit(x % 10);
+    end + 1
+}
+
+// A space and a number.
+fn put_spaced(out: &mut [u8], at: usize, x: usize) -> usize
+    requires { ⌜ at + length (spaced x) ≤ length (now out) ⌝ }
+    ensures { λ r. ⌜ (r ≡ at + length (spaced x)) × (now (out .exit) ≡ over (now (out .entry)) at (spaced x)) ⌝ }
+{
+    out[at] = 32;
+    put_decimal(out, at + 1, x)
+}
+
+fn put_byte(out: &mut [u8], at: usize, b: u8) -> usize
+    requires { ⌜ at + 1 ≤ length (now out) ⌝ }
+    ensures { λ r. ⌜ (r ≡ at + 1) × (now (out .exit) ≡ over (now (out .entry)) at (b ∷ [])) ⌝ }
+{
+    out[at] = b;
+    at + 1
+}
+
+fn put_word(out: &mut [u8], at: usize, word: &[u8]) -> usize
+    requires { ⌜ at + length (now word) ≤ length (now out) ⌝ }
+    ensures { λ r. ⌜ (r ≡ at + length (now (word .entry))) × (now (out .exit) ≡ over (now (out .entry)) at (now (word .entry))) ⌝ }
+{
+    let mut i = 0;
+    while i < word.len() {
+        out[at + i] = word[i];
+        i += 1;
+    }
+    at + i
+}
+
+// The line of a refused job.
+pub fn refused_line(out: &mut [u8], k: usize) -> usize
+    requires { ⌜ length (refusedLine k) ≤ length (now out) ⌝ }
+    ensures { λ r. ⌜ (r ≡ length (refusedLine k)) × (now (out .exit) ≡ over (now (out .entry)) 0 (refusedLine k)) ⌝ }
+{
+    let word = put_word(out, 0, b"refused");
+    let number = put_spaced(out, word, k);
+    put_byte(out, number, 10)
+}
+
+// The first line: width, height, layers and reach.
+pub fn job_line(out: &mut [u8], s: Settings) -> usize
+    requires { ⌜ (0 < s .pitch .0) × (length (jobLine s) ≤ length (now out)) ⌝ }
+    ensures { λ r. ⌜ (r ≡ length (jobLine s)) × (now (out .exit) ≡ over (now (out .entry)) 0 (jobLine s)) ⌝ }
+{
+    let word = put_word(out, 0, b"job");
+    let width = put_spaced(out, word, s.w);
+    let height = put_spaced(out, width, s.h);
+    let layers = put_spaced(out, height, s.n);
+    let pitch = s.pitch;
+    let overhang = s.overhang;
+    let reach = reach_of(pitch, overhang);
+    let told = put_word(out, layers, b" reach");
+    let number = put_spaced(out, told, reach.0);
+    put_byte(out, number, 10)
+}
+
+// The line of a layer.
+fn layer_line(
+    out: &mut [u8],
+    at: usize,
+    layer: usize,
+    part: usize,
+    support: usize,
+    excused: usize,
+) -> usize
+    requires { ⌜ at + length (lineOf layer part support excused) ≤ length (now out) ⌝ }
+    ensures { λ r. ⌜ (r ≡ at + length (lineOf layer part support excused)) × (now (out .exit) ≡ over (now (out .entry)) at (lineOf layer part support excused)) ⌝ }
+{
+    let first = put_decimal(out, at, layer);
+    let second = put_spaced(out, first, part);
+    let third = put_spaced(out, second, support);
+    let fourth = put_spaced(out, third, excused);
+    put_byte(out, fourth, 10)
+}
