@@ -1,6 +1,6 @@
 -- Demand 2: planning by 01's rules is the chapter's Algorithms 1 and 2, iteration by iteration.
 use mathlib.Core.Path.{_≡_, refl, sym, ap, _∙_}
-use mathlib.Core.Logic.{_⊎_, inl, inr, ⊎-elim}
+use mathlib.Core.Logic.{_⊎_, inl, inr, ⊎-elim, _↔_}
 use mathlib.Core.Bool.{Bool, true, false, not, _&&_, _||_, cond}
 use mathlib.Core.List.{List}
 use Prim.Native.Nat.{ℕ, zero, suc, _+_, _-_, _*_, _≤_, _<_}
@@ -176,7 +176,7 @@ module _ (m : ℕ) (touch : ℕ → ℕ → Bool) (psi low up within : Plane) wh
     }
     same-always (suc k) = same-next k (same-always k)
 
-    -- "while C ≠ ∅": after m iterations C is empty, and where it is empty before, nothing changes any more
+    -- line 5 of Algorithm 1, "while C ≠ ∅": after m iterations C is empty, and where it is empty before, nothing changes any more
     pub swallow-ends : (p : ℕ) → p < m → swallowed m touch psi low up within (G m) p ≡ false
     swallow-ends p l = split (swallowed m touch psi low up within (G m) p)
         (λ t.
@@ -190,6 +190,18 @@ module _ (m : ℕ) (touch : ℕ → ℕ → Bool) (psi low up within : Plane) wh
         let (z, f) = born-bare m touch free seed k x lx e in
         clash (swallowed-is k (same-always k) x lx ∙ and-in _ _ (eq-eqb (ringOf k x) 0 z) f) (s x lx) in
         same-always k .left p l ∙ rw (quiet-is m touch free seed k quiet) (sym (same-always m .left p l))
+
+    -- a ring is the number of the iteration that swallows the pixel
+    pub iteration-ring : (k p : ℕ) → p < m → (ringOf m p ≡ suc k) ↔ (swallowed m touch psi low up within (G k) p ≡ true)
+    iteration-ring k p l = (
+      (λ e.
+          let (z, f) = born-bare m touch free seed k p l (born m touch free seed m p k l e) in
+          swallowed-is k (same-always k) p l ∙ and-in _ _ (eq-eqb (ringOf k p) 0 z) f),
+      (λ t.
+          let e : (eqb (ringOf k p) 0 && fitting m touch free seed k p) ≡ true = sym (swallowed-is k (same-always k) p l) ∙ t in
+          let r : ringOf (suc k) p ≡ suc k = new m touch free seed k p l (eqb-true _ _ (and-l _ (fitting m touch free seed k p) e)) (and-r (eqb (ringOf k p) 0) _ e) in
+          keep-to m touch free seed (suc k) m p k (omega (arith, crowd m touch free seed k p l r, count-le m (has m touch free seed (suc k)))) l r),
+    )
 
 -- Algorithm 2 -----------------------------------------------------------------------------------------------------------
 

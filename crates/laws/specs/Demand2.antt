@@ -10,15 +10,15 @@ use lib.ListN.{length}
 use Rattle.rules.specs.Tools.{refusal, answer}
 use Rattle.rules.specs.Images.{Plane, pixel, ringAt}
 use Rattle.rules.specs.Reach.{boundOf}
-use Rattle.rules.specs.Planning.{rings, planned, empty, plannedRings, plannedBytes, regionSubtraction}
+use Rattle.rules.specs.Planning.{shadow, near, seeds, reached, touch, rings, planned, empty, plannedRings, plannedBytes, swallowed, growingSwallow, regionSubtraction}
 use Rattle.rules.specs.Calls.{planCases, planRefusal, planAnswer, planSupport, planRings}
 use Rattle.rules.specs.Demands.{JoinedBy, Excused, Words}
 use Rattle.rules.specs.declared.Settings.{Settings}
 use Rattle.rules.specs.declared.Planned.the-variants.{Done, Refused}
 use Rattle.laws.specs.Refusals.{answer-fine, answer-refused}
-use Rattle.laws.specs.Soundness.{ringsOf, ring-iff, ringsOf-excused, ringsOf-fewest}
+use Rattle.laws.specs.Soundness.{ringsOf, ringsOf-is, seed-barred, ring-iff, ringsOf-excused, ringsOf-fewest}
 use Rattle.laws.specs.PixelBytes.{pixel-bytes}
-use Rattle.laws.specs.Chapter.{region-subtraction, top-empty}
+use Rattle.laws.specs.Chapter.{iteration-ring, region-subtraction, top-empty}
 
 -- What the call leaves ---------------------------------------------------------------------------------------------------
 
@@ -70,6 +70,19 @@ module _ (w h n : ℕ) (q : ℕ → ℕ) (part : List ℕ) where
       (JoinedBy w h q (pixel w h part) i (suc j) p × ((k : ℕ) → JoinedBy w h q (pixel w h part) i k p → suc j ≤ k))
   unfolding plannedRings
   ring-fewest-steps i p j l lp = ring-iff w h n q (pixel w h part) i p j l lp
+
+  -- a pixel has ring k + 1 exactly when iteration k of Algorithm 1 swallows it
+  pub ring-by-iteration : (i p k : ℕ) → suc i < n → p < h * w → (plannedRing i p ≡ suc k) ↔
+      (swallowed (h * w) (touch w) (shadow (pixel w h part i) (pixel w h part (suc i))) (pixel w h part i) (pixel w h part (suc i)) (near w h (q i) (pixel w h part i))
+      (growingSwallow (h * w) (touch w) (shadow (pixel w h part i) (pixel w h part (suc i))) (pixel w h part i) (pixel w h part (suc i)) (near w h (q i) (pixel w h part i)) k) p ≡ true)
+  unfolding plannedRings reached seeds
+  ring-by-iteration i p k l lp =
+      let low : Plane = pixel w h part i in
+      let up : Plane = pixel w h part (suc i) in
+      let b = seed-barred w h n q (pixel w h part) i in
+      let is = ringsOf-is w h n q (pixel w h part) i p l lp in
+      let e = iteration-ring (h * w) (touch w) (shadow low up) low up (near w h (q i) low) b k p lp in
+      ((λ r. e .0 (sym is ∙ r)), (λ s. is ∙ e .1 s))
 
   -- "All other pixels have ring 0."
   pub ring-none : (i p : ℕ) → suc i < n → p < h * w → (plannedRing i p ≡ 0) ↔ (Excused w h q (pixel w h part) i p → ⊥)

@@ -1,6 +1,8 @@
 -- Theorems about the rules. First what the demands ask, by name; below them what their proofs lean on.
 pub mod Bench
+pub mod Examples
 pub mod Refusals
+pub mod Demand1
 pub mod Demand2
 pub mod Chapter
 pub mod RingsFit
@@ -11,9 +13,9 @@ pub mod ReportLaws
 pub mod Tests
 pub mod Limits
 pub mod Discs
-pub mod Neighbours
 pub mod Growing
 pub mod Places
+pub mod Neighbours
 pub mod PixelBytes
 pub mod BytePixels
 pub mod Numbers

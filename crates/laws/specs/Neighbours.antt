@@ -1,5 +1,5 @@
--- Neighbours and distances by rows and columns, without subtraction; and that reach 0 excuses nothing.
-use mathlib.Core.Path.{_≡_, refl, sym, ap, _∙_}
+-- Neighbours and nearness by rows and columns; and that a bound of 0 leaves no shadow pixel near.
+use mathlib.Core.Path.{_≡_, refl, sym, ap, subst, _∙_}
 use mathlib.Core.Logic.{_≢_, _↔_}
 use mathlib.Core.Bool.{Bool, true, false, not, _&&_, _||_}
 use Prim.Native.Nat.{ℕ, zero, suc, _+_, _-_, _*_, _/_, _%_, _^_, _≤_, _<_}
@@ -10,8 +10,9 @@ use lib.Dec.{leb, ltb, eqb}
 use borrow.Author.Tests.{eqb-true, eqb-false, ne-eqb, le-leb, leb-true}
 use Rattle.rules.specs.Images.{Plane}
 use Rattle.rules.specs.Planning.{touch, shadow, near, reached}
-use Rattle.rules.specs.Reach.{apart, distance²}
-use Rattle.laws.specs.Tests.{split, clash, and-l, and-r, and-in, not-in, not-out, some-out}
+use Rattle.rules.specs.Reach.{square, apart, distance²}
+use Rattle.laws.specs.Tests.{split, clash, and-l, and-r, and-in, not-in, not-out, some-in, some-out}
+use Rattle.laws.specs.Places.{digits-in}
 use Rattle.laws.specs.Discs.{square-grows}
 
 -- the pixel in row r and column c touches the one in row s and column d
@@ -58,7 +59,7 @@ no-gap : (a b : ℕ) → apart a b ≤ 0 → a ≡ b
 unfolding apart
 no-gap a b h = omega arith
 
--- "t 0 and t = p−1 give R 0, which excuses nothing": no shadow pixel is near
+-- a reach of 0 "excuses nothing": no shadow pixel is near
 pub reach-none : (w h : ℕ) (low up : Plane) (p : ℕ) → reached w h 0 low up p ≡ false
 unfolding reached near shadow distance²
 reach-none w h low up p = split (reached w h 0 low up p)
@@ -70,3 +71,22 @@ reach-none w h low up p = split (reached w h 0 low up p)
     let same : p ≡ o = same-number w p o rows columns in
     clash (rw (← same) at (and-l (low o) _ e)) (not-out (low p) (and-r (up p) _ (and-l (shadow low up p) _ t))))
     (λ t. t)
+
+distance-is : (w r c o : ℕ) → c < w → distance² w (r * w + c) o ≡ (r - o / w + (o / w - r)) * (r - o / w + (o / w - r)) + (c - o % w + (o % w - c)) * (c - o % w + (o % w - c))
+unfolding distance² square apart
+distance-is w r c o lc = rw (digits-div r lc, digits-mod r lc)
+
+-- near, by rows and columns: some pixel of the plane whose row and column differences, squared and added, are at most the bound
+pub near-is : (w h q : ℕ) (low : Plane) (r c : ℕ) → c < w → (near w h q low (r * w + c) ≡ true) ↔
+    ((s : ℕ) × (d : ℕ) × (s < h) × (d < w) × (low (s * w + d) ≡ true) × ((r - s + (s - r)) * (r - s + (s - r)) + (c - d + (d - c)) * (c - d + (d - c)) ≤ q))
+unfolding near
+near-is w h q low r c lc = (
+  (λ e.
+      let (o, lo, t) = some-out (h * w) (λ o. low o && leb (distance² w (r * w + c) o) q) e in
+      let (ls, ld) = digits-in o h w lo in
+      let z : o / w * w + o % w ≡ o = div-add-mod' o w in
+      (o / w, o % w, ls, ld, rw z (and-l (low o) _ t), subst (λ (x : ℕ). x ≤ q) (distance-is w r c o lc) (leb-true _ q (and-r (low o) _ t)))),
+  (λ (s, d, ls, ld, e, h₁).
+      some-in (h * w) (λ o. low o && leb (distance² w (r * w + c) o) q) (s * w + d) (digits-lt ls ld)
+      (and-in _ _ e (le-leb _ q (subst (λ (x : ℕ). x ≤ q) (sym (distance-is w r c (s * w + d) lc ∙ rw (digits-div s ld, digits-mod s ld))) h₁)))),
+)

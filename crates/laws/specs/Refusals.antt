@@ -15,7 +15,7 @@ use Rattle.rules.specs.declared.Micrometres.{Micrometres}
 use Rattle.rules.specs.declared.Settings.{Settings}
 use Rattle.laws.specs.Tests.{split, clash, and-l, and-r}
 
--- "given exactly when" ------------------------------------------------------------------------------------------------
+-- "Given exactly when" ------------------------------------------------------------------------------------------------
 
 given-in : (cs : List Case) (k : ℕ) → refusal cs ≡ suc k → Given (suc k) cs
 given-in [] k e = absurd (omega arith)
@@ -57,7 +57,7 @@ none-out (next t r) = rw t (none-out r)
 pub none-exactly : (cs : List Case) → numbered cs ≡ true → (refusal cs ≡ 0) ↔ NoneGiven cs
 none-exactly cs n = (none-in cs n, λ r. none-out r)
 
--- "Every call ends with a defined answer": what no case refuses is answered, and what one refuses is refused with its number
+-- an answer made from a table: what no case refuses is answered, and what one refuses is refused with its number
 pub answered : {A : Type 0} (cs : List Case) (fine : A) (refused : ℕ → A) →
     ((refusal cs ≡ 0) × (answer (refusal cs) fine refused ≡ fine)) ⊎ ((k : ℕ) × Given (suc k) cs × (answer (refusal cs) fine refused ≡ refused (suc k)))
 answered {A} cs fine refused = go (refusal cs) refl

@@ -7,7 +7,7 @@ use native.Mathlib.Omega.{arith}
 use lib.Dec.{ltb}
 use lib.ListN.{length, length-append}
 use borrow.Author.Tests.{ltb-true, ltb-false, lt-ltb, le-ltb}
-use Rattle.rules.specs.Tools.{bit, some, count, each, joinedUp}
+use Rattle.rules.specs.Tools.{_when_, refusal, bit, some, count, each, joinedUp}
 use Rattle.rules.specs.Images.{within, sized, rowBytes, bitAt, pixel, rowsOf, stackBytes, paddingSet, byteOf, bytesOf, ringsIn, ringAt}
 use Rattle.rules.specs.Reach.{settable, reachOf, square, boundOf, apart, distance²}
 use Rattle.rules.specs.Planning.{shadow, near, seeds, reached, touch, source, touching, fits, grow, grown, ringPlane, rings, excused, supportUnder, topOf, planned, empty, plannedRings, plannedBytes}
@@ -15,6 +15,7 @@ use Rattle.rules.specs.Jobs.{headEnd, partEnd, supportCount, supportEnd, ringCo
 use Rattle.rules.specs.Calls.{reachCases, settingCases, sectionCases, readCases}
 use Rattle.rules.specs.Report.{digits, decimal, spaced, newline, refusedLine, jobLine, filled, excusedAbove, layerLine, planLines, reportCases, reportOf}
 use Rattle.laws.specs.Tests.{split}
+use Rattle.laws.specs.Refusals.{numbered, refusal-append}
 
 -- "Input (28 bytes, hexadecimal) .. Whole output": `job 8 1 2 reach 2`, `1 8 0 0`, `0 3 3 2`
 pub report-example :
@@ -82,3 +83,36 @@ pub decimal-length : (x : ℕ) → x < 100000 → length (decimal x) ≤ 5
 decimal-length x h =
     longer x 4 (λ a. longer (x / 10) 3 (λ b. longer (x / 10 / 10) 2 (λ c. longer (x / 10 / 10 / 10) 1 (λ d.
     longer (x / 10 / 10 / 10 / 10) 0 (λ e. absurd (omega arith))))))
+
+read-numbered : (f : List ℕ) → numbered (readCases f) ≡ true
+unfolding readCases sectionCases settingCases reachCases numbered
+read-numbered f = refl
+
+-- 17 in both places ----------------------------------------------------------------------------------------------------------------
+
+pub report-too-long : (f : List ℕ) → 65536 < length f → reportOf f ≡ refusedLine 17
+unfolding reportOf reportCases
+report-too-long f h = rw (lt-ltb 65536 (length f) h)
+
+pub report-no-room : (f : List ℕ) → length f ≤ 65536 → refusal (readCases f) ≡ 0 → 32768 < ringsIn (settingsIn f) → reportOf f ≡ refusedLine 17
+unfolding reportOf reportCases
+report-no-room f h e r =
+    let a : refusal (readCases f ++ (17 when ltb 32768 (ringsIn (settingsIn f))) ∷ []) ≡ 17 =
+    refusal-append (readCases f) ((17 when ltb 32768 (ringsIn (settingsIn f))) ∷ []) (read-numbered f) ∙ rw (e, lt-ltb 32768 (ringsIn (settingsIn f)) r) in
+    rw (le-ltb 65536 (length f) h, a)
+
+-- and the lines where neither is met and the job is read
+pub report-prints : (f : List ℕ) → length f ≤ 65536 → refusal (readCases f) ≡ 0 → ringsIn (settingsIn f) ≤ 32768 → reportOf f ≡ planLines (settingsIn f) (partIn f)
+unfolding reportOf reportCases
+report-prints f h e r =
+    let a : refusal (readCases f ++ (17 when ltb 32768 (ringsIn (settingsIn f))) ∷ []) ≡ 0 =
+    refusal-append (readCases f) ((17 when ltb 32768 (ringsIn (settingsIn f))) ∷ []) (read-numbered f) ∙ rw (e, le-ltb 32768 (ringsIn (settingsIn f)) r) in
+    rw (le-ltb 65536 (length f) h, a)
+
+-- other refusals print their number
+pub report-refused : (f : List ℕ) (k : ℕ) → length f ≤ 65536 → refusal (readCases f) ≡ suc k → reportOf f ≡ refusedLine (suc k)
+unfolding reportOf reportCases
+report-refused f k h e =
+    let a : refusal (readCases f ++ (17 when ltb 32768 (ringsIn (settingsIn f))) ∷ []) ≡ suc k =
+    refusal-append (readCases f) ((17 when ltb 32768 (ringsIn (settingsIn f))) ∷ []) (read-numbered f) ∙ rw e in
+    rw (le-ltb 65536 (length f) h, a)

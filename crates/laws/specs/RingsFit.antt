@@ -15,7 +15,7 @@ use Rattle.laws.specs.Growing.{ring-less}
 use Rattle.laws.specs.Places.{digits-in}
 use Rattle.laws.specs.Soundness.{ringsOf, ringsOf-is, rings-length, seed-barred}
 
--- "The number of near shadow pixels is at most 65,535 where there is a seed, so rings fit 16 bits."
+-- ".. so rings fit 16 bits": a ring is less than the number of pixels, for a seed has none
 pub rings-fit : (w h n : ℕ) (q : ℕ → ℕ) (part : Stack) → h * w ≤ 65536 → Words (rings w h n q part)
 unfolding ringAt
 rings-fit w h n q part b x =

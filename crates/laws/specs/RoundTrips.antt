@@ -6,7 +6,7 @@ use Prim.Native.Nat.{ℕ, _+_, _-_, _*_, _≤_, _<_}
 use native.Mathlib.Nat.{zero-add, zero-mul, mul-le-mul}
 use native.Mathlib.Omega.{arith}
 use lib.Dec.{eqb}
-use lib.ListN.{length, take, drop, length-drop, drop-of-length-le}
+use lib.ListN.{length, take, drop, length-drop, drop-of-length-le, take-append-drop}
 use lib.Seq.{length-take-le, take-at, drop-at}
 use borrow.Author.Tests.{eq-eqb, ne-eqb, eqb-true}
 use Rattle.rules.specs.Tools.{refusal}
@@ -287,6 +287,17 @@ unfolding writeTo over
 write-keeps-tail j d e =
     let n = length-file j (writable-exactly j (length d) .0 e .0) in
     (simp e (take-at (fileOf j) _ (fileLength j) n), simp e (drop-at (fileOf j) _ (fileLength j) n ∙ ap (λ (k : ℕ). drop k d) (zero-add (length (fileOf j)) ∙ n)))
+
+-- an accepted file written again into a destination of its length: the same bytes
+pub rewritten : (f d : List ℕ) → Bytes f → readRefusal f ≡ 0 → length d ≡ length f → writeTo (jobIn f) d ≡ f
+rewritten f d b e n =
+    let (same, fits, short) = written-again f b e in
+    let z : writeRefusal (jobIn f) (length d) ≡ 0 = fits (length d) (omega arith) in
+    let (front, back) = write-keeps-tail (jobIn f) d z in
+    let k : fileLength (jobIn f) ≡ length f = same-length f (accepted-exactly f .0 e) in
+    let h : length d ≤ fileLength (jobIn f) = omega arith in
+    sym (take-append-drop (fileLength (jobIn f)) (writeTo (jobIn f) d))
+    ∙ rw (front, back, same) (ap (λ (l : List ℕ). f ++ l) (drop-of-length-le d h) ∙ append-nil f)
 
 -- and what is read of the bytes up to the length answered is the job
 pub written-read : (j : Job) (d : List ℕ) → Words (j .rings) → writeRefusal j (length d) ≡ 0 →

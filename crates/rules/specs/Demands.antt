@@ -3,13 +3,14 @@ use mathlib.Core.Path.{_≡_}
 use mathlib.Core.Logic.{_⊎_}
 use mathlib.Core.Bool.{Bool, true, false, _||_}
 use mathlib.Core.List.{List, [], _∷_}
-use Prim.Native.Nat.{ℕ, suc, _*_, _<_}
+use Prim.Native.Nat.{ℕ, suc, _+_, _*_, _<_}
 use lib.ListN.{getD}
 use Rattle.rules.specs.Tools.{Case, _when_}
 use Rattle.rules.specs.Images.{Plane, Stack}
 use Rattle.rules.specs.Planning.{touch, seeds, reached}
+use Rattle.rules.specs.declared.Place.{Place}
 
--- Demand 1: "given exactly when": the number k is that of a case whose condition holds, and no earlier one of the table does
+-- Demand 1 and the head of 01's table, "Given exactly when": the number k is that of a case whose condition holds, and no earlier one of the table does
 pub data Given (k : ℕ) : List Case → Type 0 where
   here : {b : Bool} {cs : List Case} → b ≡ true → Given k ((k when b) ∷ cs)
   later : {j : ℕ} {b : Bool} {cs : List Case} → b ≡ false → Given k cs → Given k ((j when b) ∷ cs)
@@ -18,6 +19,22 @@ pub data Given (k : ℕ) : List Case → Type 0 where
 pub data NoneGiven : List Case → Type 0 where
   end : NoneGiven []
   next : {j : ℕ} {b : Bool} {cs : List Case} → b ≡ false → NoneGiven cs → NoneGiven ((j when b) ∷ cs)
+
+-- "the first place by layer, then row, then column": the place j, s, d comes before the place i, r, c
+pub data Earlier (j s d i r c : ℕ) : Type 0 where
+  sooner-layer : j < i → Earlier j s d i r c
+  sooner-row : j ≡ i → s < r → Earlier j s d i r c
+  sooner-column : j ≡ i → s ≡ r → d < c → Earlier j s d i r c
+
+-- row r, column c of layer i is the first pixel of n layers that passes; the layer told is i + up
+pub record FirstAt (w h n up : ℕ) (f : Stack) (at : Place) : Type 0 where
+  pub i : ℕ
+  pub r : ℕ
+  pub c : ℕ
+  pub inside : (i < n) × (r < h) × (c < w)
+  pub told : at ≡ record { layer = i + up; row = r; column = c }
+  pub passes : f i (r * w + c) ≡ true
+  pub none-earlier : (j s d : ℕ) → j < n → s < h → d < w → Earlier j s d i r c → f j (s * w + d) ≡ false
 
 -- Demands 2 and 3: "joined, by pixels touching at a side or corner, itself the first": the pixel p is joined to a seed by k steps over free pixels
 pub data Joined (m : ℕ) (touch : ℕ → ℕ → Bool) (free seed : Plane) : ℕ → ℕ → Type 0 where

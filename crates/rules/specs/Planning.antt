@@ -1,4 +1,4 @@
--- 'Planning a stack' of 01, and Algorithms 1 and 2 of the chapter, line by line.
+-- 'Planning a stack' of 01, and beside it Algorithms 1 and 2 of the chapter.
 use mathlib.Core.Bool.{Bool, true, false, not, _&&_, _||_, cond}
 use mathlib.Core.List.{List, [], _∷_, _++_}
 use Prim.Native.Nat.{ℕ, zero, suc, _+_, _-_, _*_, _/_, _%_}
@@ -30,7 +30,7 @@ touch w p o = leb (apart (p / w) (o / w)) 1 && leb (apart (p % w) (o % w)) 1 && 
 
 -- Growing, over m pixels with any neighbours, any free pixels (those that may carry a ring) and any seeds ------------------
 
--- "a neighbour of ring k−1; for k = 1 the neighbour must be a seed": what a pixel of ring k + 1 must touch
+-- what a pixel of ring k + 1 must touch: a pixel of ring k, and "for k = 1 the neighbour must be a seed", so for k + 1 = 1 here
 unfoldable pub source : Plane → (ℕ → ℕ) → ℕ → Plane
 source seed ring k o = eqb (ring o) k && (ltb 0 k || seed o)
 
@@ -92,7 +92,8 @@ unfoldable pub plannedBytes : ℕ → ℕ → ℕ → (ℕ → ℕ) → List ℕ
 plannedBytes w h n q part =
     bytesOf w h n (planned n (pixel w h part) empty (ringAt w h (plannedRings w h n q part)))
 
--- The chapter's algorithms, line by line --------------------------------------------------------------------------------------
+-- The chapter's algorithms, by their lines. The distance map of lines 3 and 4 is 01's near; lines 5 and 10, 'while C ≠ ∅', are a number
+-- of iterations, and the laws show that as many as there are pixels are enough (swallow-ends) and stopping sooner is the same (swallow-stops)
 
 module _ (m : ℕ) (touch : ℕ → ℕ → Bool) (psi low up within : Plane) where
   -- the state of Algorithm 1: the region A, and the support S̃ that is left

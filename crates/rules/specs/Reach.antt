@@ -19,7 +19,7 @@ reachOf p t = record { 0 = t .0 / p .0 }
 unfoldable pub square : ℕ → ℕ
 square x = x * x
 
--- "compared with R²": the bound on squared distances, for the pair of layers i and i + 1
+-- "compared with R²": the bound on squared distances for pair i, the same for every pair
 unfoldable pub boundOf : Settings → ℕ → ℕ
 boundOf s i = square (reachOf (s .pitch) (s .overhang) .0)
 
@@ -34,6 +34,6 @@ distance² w p o = square (apart (p / w) (o / w)) + square (apart (p % w) (o % w
 unfoldable pub root : ℕ → ℕ
 root m = largest m λ r. leb (square r) m
 
--- "How far a disc runs to each side in a row": in a row d away from its middle, for the bound q
+-- "How far a disc runs to each side in a row": in a row d away from its middle, for the bound q, where d² is at most q
 unfoldable pub halfWidth : ℕ → ℕ → ℕ
 halfWidth q d = root (q - square d)

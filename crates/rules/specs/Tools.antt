@@ -33,11 +33,12 @@ unfoldable pub joinedUp : {A : Type 0} → ℕ → ℕ → (ℕ → List A) → 
 joinedUp a zero f = []
 joinedUp a (suc n) f = f a ++ joinedUp (suc a) n f
 
--- the first of a, a + 1, .. (n of them) that passes the test
+-- what a search finds
 pub data Found : Type 0 where
   nothing : Found
   found : ℕ → Found
 
+-- the first of a, a + 1, .. (n of them) that passes the test
 unfoldable pub first : ℕ → ℕ → (ℕ → Bool) → Found
 first a zero f = nothing
 first a (suc n) f = cond (f a) (found a) (first (suc a) n f)

@@ -1,0 +1,178 @@
+-- Examples beside the bench pieces, computed by the definitions of the calls: one input for each number that a call can give, images of
+-- several rows and bytes, a job file with support and rings, and the report's text.
+use mathlib.Core.Path.{_≡_, refl}
+use mathlib.Core.List.{List, [], _∷_, _++_, map}
+use Prim.Native.Nat.{ℕ, _+_}
+use lib.ListN.{length, take, set}
+use Rattle.rules.specs.Tools.{bit, some, count, each, joinedUp, first}
+use Rattle.rules.specs.Images.{within, sized, rowBytes, bitAt, pixel, rowsOf, stackBytes, paddingSet, byteOf, bytesOf, ringsIn, ringAt}
+use Rattle.rules.specs.Reach.{settable, reachOf, square, boundOf, apart, distance²}
+use Rattle.rules.specs.Planning.{shadow, near, seeds, reached, touch, source, touching, fits, grow, grown, ringPlane, rings, excused, supportUnder, topOf, planned, empty, plannedRings, plannedBytes}
+use Rattle.rules.specs.Judging.{overlap, badRing, unheld, firstIn, placeOf, tell, verdict, verdictOf}
+use Rattle.rules.specs.Jobs.{Job, headEnd, partEnd, supportCount, supportEnd, ringCount, jobEnd, settingsIn, storedIn, partIn, supportIn, ringsStored, layoutOf, storedRows, fileOf, fileLength, over}
+use Rattle.rules.specs.Calls.{saysPlanned, saysJudged, saysRead, saysCopied, saysWritten, reachCases, settingCases, lengthCases, planCases, planRefusal, planAnswer, planSupport, planRings, judgeCases, judgeAnswer, sectionCases, readCases, readRefusal, readAnswer, partAnswer, supportAnswer, copyCases, copyAnswer, copyRings, writeCases, writeRefusal, writeAnswer, writeTo}
+use Rattle.rules.specs.Report.{digits, decimal, spaced, refusedLine, jobLine, filled, excusedAbove, layerLine, planLines, reportCases, reportOf}
+use Rattle.rules.specs.declared.Settings.{Settings}
+
+pub settings : ℕ → ℕ → ℕ → ℕ → ℕ → Settings
+settings w h n p t = record { w = w; h = h; n = n; pitch = record { 0 = p }; overhang = record { 0 = t } }
+
+-- Planning ---------------------------------------------------------------------------------------------------------------
+
+-- what planning leaves in memory that held nothing: the support, and then the rings
+pub leaves : Settings → List ℕ → List (List ℕ)
+leaves s part =
+    let sup : List ℕ = each 0 (stackBytes s) (λ x. 0) in
+    let ring : List ℕ = each 0 (ringsIn s) (λ x. 0) in
+    planSupport s part sup ring ∷ planRings s part sup ring ∷ []
+
+-- a plate over one pixel, all of it within reach and joined; and rows of two bytes
+pub plans-rows :
+    leaves (settings 3 3 2 100 300) (0x80 ∷ 0x00 ∷ 0x00 ∷ 0xE0 ∷ 0xE0 ∷ 0xE0 ∷ [])
+    ∷ leaves (settings 9 2 2 100 200) (0x80 ∷ 0x00 ∷ 0x00 ∷ 0x00 ∷ 0xFF ∷ 0x80 ∷ 0x00 ∷ 0x80 ∷ [])
+    ∷ []
+    ≡ ((0x00 ∷ 0x00 ∷ 0x00 ∷ 0x00 ∷ 0x00 ∷ 0x00 ∷ []) ∷ (0 ∷ 1 ∷ 2 ∷ 1 ∷ 1 ∷ 2 ∷ 2 ∷ 2 ∷ 2 ∷ []) ∷ [])
+    ∷ ((0x1F ∷ 0x80 ∷ 0x00 ∷ 0x80 ∷ 0x00 ∷ 0x00 ∷ 0x00 ∷ 0x00 ∷ []) ∷ (0 ∷ 1 ∷ 2 ∷ 0 ∷ 0 ∷ 0 ∷ 0 ∷ 0 ∷ 0 ∷ 0 ∷ 0 ∷ 0 ∷ 0 ∷ 0 ∷ 0 ∷ 0 ∷ 0 ∷ 0 ∷ []) ∷ [])
+    ∷ []
+unfolding bit some each joinedUp within sized rowBytes bitAt pixel rowsOf stackBytes paddingSet byteOf bytesOf ringsIn ringAt settable reachOf square boundOf apart distance² shadow near seeds reached touch source touching fits grow grown ringPlane rings excused supportUnder topOf planned empty plannedRings plannedBytes reachCases settingCases lengthCases planCases planRefusal planSupport planRings settings leaves
+plans-rows = refl
+
+pub plan-says : Settings → List ℕ → ℕ → ℕ → List ℕ
+plan-says s part a b = saysPlanned (planAnswer s part a b)
+
+-- 1 to 7, each with all that comes after it wrong as well where that can be, and 0
+pub plan-numbers :
+    plan-says (settings 257 0 0 9 10001) (1 ∷ []) 9 9
+    ∷ plan-says (settings 7 1 2 9 10001) (1 ∷ []) 9 9
+    ∷ plan-says (settings 7 1 2 10 330) (1 ∷ []) 9 9
+    ∷ plan-says (settings 7 1 2 10 320) (1 ∷ []) 9 9
+    ∷ plan-says (settings 7 1 2 10 320) (1 ∷ 1 ∷ []) 3 9
+    ∷ plan-says (settings 7 1 2 10 320) (1 ∷ 1 ∷ []) 2 8
+    ∷ plan-says (settings 7 1 2 10 320) (0 ∷ 1 ∷ []) 2 7
+    ∷ plan-says (settings 7 1 2 10 320) (2 ∷ 2 ∷ []) 2 7
+    ∷ []
+    ≡ (1 ∷ []) ∷ (2 ∷ []) ∷ (3 ∷ []) ∷ (4 ∷ []) ∷ (5 ∷ []) ∷ (6 ∷ []) ∷ (7 ∷ []) ∷ (0 ∷ []) ∷ []
+unfolding some within sized rowBytes rowsOf stackBytes paddingSet ringsIn settable reachOf reachCases settingCases lengthCases planCases planRefusal planAnswer settings plan-says
+plan-numbers = refl
+
+-- Judging ----------------------------------------------------------------------------------------------------------------
+
+pub judge-says : Settings → List ℕ → List ℕ → List ℕ → List ℕ
+judge-says s part sup ring = saysJudged (judgeAnswer s part sup ring)
+
+pub judge-numbers :
+    judge-says (settings 7 1 2 10 0) (1 ∷ []) [] []
+    ∷ judge-says (settings 7 1 2 10 0) (1 ∷ 1 ∷ []) (1 ∷ []) []
+    ∷ judge-says (settings 7 1 2 10 0) (1 ∷ 1 ∷ []) (1 ∷ 1 ∷ []) []
+    ∷ judge-says (settings 7 1 2 10 0) (1 ∷ 1 ∷ []) (1 ∷ 1 ∷ []) (each 0 7 (λ x. 0))
+    ∷ judge-says (settings 7 1 2 10 0) (2 ∷ 2 ∷ []) (1 ∷ 1 ∷ []) (each 0 7 (λ x. 0))
+    ∷ judge-says (settings 7 1 1 10 0) (2 ∷ []) (4 ∷ []) []
+    ∷ judge-says (settings 2 2 3 100 200) (0x80 ∷ 0x80 ∷ 0x80 ∷ 0x80 ∷ 0x80 ∷ 0xC0 ∷ []) (0 ∷ 0 ∷ 0 ∷ 0 ∷ 0 ∷ 0 ∷ []) (each 0 8 (λ x. 0))
+    ∷ judge-says (settings 2 2 3 100 200) (0x80 ∷ 0x80 ∷ 0x80 ∷ 0x80 ∷ 0x80 ∷ 0xC0 ∷ []) (0 ∷ 0 ∷ 0 ∷ 0 ∷ 0 ∷ 0 ∷ []) (0 ∷ 0 ∷ 0 ∷ 0 ∷ 0 ∷ 0 ∷ 0 ∷ 2 ∷ [])
+    ∷ judge-says (settings 2 2 3 100 200) (0x80 ∷ 0x80 ∷ 0x80 ∷ 0x80 ∷ 0x80 ∷ 0xC0 ∷ []) (0 ∷ 0 ∷ 0 ∷ 0 ∷ 0x40 ∷ 0xC0 ∷ []) (each 0 8 (λ x. 0))
+    ∷ []
+    ≡ (4 ∷ []) ∷ (5 ∷ []) ∷ (6 ∷ []) ∷ (7 ∷ []) ∷ (8 ∷ []) ∷ (0 ∷ []) ∷ (11 ∷ 2 ∷ 1 ∷ 1 ∷ []) ∷ (10 ∷ 2 ∷ 1 ∷ 1 ∷ []) ∷ (9 ∷ 2 ∷ 1 ∷ 0 ∷ []) ∷ []
+unfolding some each first within sized rowBytes bitAt pixel rowsOf stackBytes paddingSet ringsIn ringAt settable reachOf square boundOf apart distance² shadow near seeds reached touch source touching fits overlap badRing unheld firstIn placeOf tell verdict verdictOf reachCases settingCases lengthCases judgeCases judgeAnswer settings judge-says
+judge-numbers = refl
+
+-- "A ring need not be the smallest to be accepted."
+pub larger-ring : judge-says (settings 1 4 2 100 100) (0x80 ∷ 0x00 ∷ 0x00 ∷ 0x80 ∷ 0x80 ∷ 0x80 ∷ 0x80 ∷ 0x80 ∷ []) (each 0 8 (λ x. 0)) (0 ∷ 1 ∷ 2 ∷ 0 ∷ []) ≡ 0 ∷ []
+unfolding some each first within sized rowBytes bitAt pixel rowsOf stackBytes paddingSet ringsIn ringAt settable reachOf square boundOf apart distance² shadow near seeds reached touch source touching fits overlap badRing unheld firstIn placeOf tell verdict verdictOf reachCases settingCases lengthCases judgeCases judgeAnswer settings judge-says
+larger-ring = refl
+
+-- Job files ----------------------------------------------------------------------------------------------------------------
+
+-- piece b as a file, with its support and rings stored
+pub fileB : List ℕ
+fileB =
+    0 ∷ 0 ∷ 0 ∷ 5 ∷ 0 ∷ 8 ∷ 0 ∷ 1 ∷ 0 ∷ 2 ∷ 0 ∷ 100 ∷ 0 ∷ 200
+    ∷ 0 ∷ 0 ∷ 0 ∷ 2 ∷ 0xE0 ∷ 0xFF
+    ∷ 0 ∷ 0 ∷ 0 ∷ 2 ∷ 0x07 ∷ 0x00
+    ∷ 0 ∷ 0 ∷ 0 ∷ 8 ∷ 0 ∷ 0 ∷ 0 ∷ 0 ∷ 0 ∷ 0 ∷ 0 ∷ 1 ∷ 0 ∷ 2 ∷ 0 ∷ 0 ∷ 0 ∷ 0 ∷ 0 ∷ 0
+    ∷ []
+
+pub jobB : Job
+jobB = record { settings = settings 8 1 2 100 200; part = 0xE0 ∷ 0xFF ∷ []; support = 0x07 ∷ 0x00 ∷ []; rings = 0 ∷ 0 ∷ 0 ∷ 1 ∷ 2 ∷ 0 ∷ 0 ∷ 0 ∷ [] }
+
+-- the file and what its calls give: settings, support stored, the four offsets; part, support and rings
+pub file-told : fileOf jobB ∷ saysRead (readAnswer fileB) ∷ partAnswer fileB ∷ supportAnswer fileB ∷ copyRings fileB (each 0 8 (λ x. 9)) ∷ saysWritten (writeAnswer jobB 46) ∷ []
+    ≡ fileB ∷ (0 ∷ 8 ∷ 1 ∷ 2 ∷ 100 ∷ 200 ∷ 1 ∷ 4 ∷ 18 ∷ 24 ∷ 30 ∷ []) ∷ (0xE0 ∷ 0xFF ∷ []) ∷ (0x07 ∷ 0x00 ∷ []) ∷ (0 ∷ 0 ∷ 0 ∷ 1 ∷ 2 ∷ 0 ∷ 0 ∷ 0 ∷ []) ∷ (0 ∷ 46 ∷ []) ∷ []
+unfolding some each within sized rowBytes rowsOf stackBytes paddingSet ringsIn settable reachOf headEnd partEnd supportCount supportEnd ringCount jobEnd settingsIn storedIn partIn supportIn ringsStored layoutOf storedRows fileOf fileLength reachCases settingCases sectionCases readCases readRefusal readAnswer partAnswer supportAnswer copyCases copyRings writeCases writeRefusal writeAnswer settings fileB jobB
+file-told = refl
+
+pub read-says : List ℕ → List ℕ
+read-says f = saysRead (readAnswer f)
+
+-- reading, from the first byte on: cuts are 12, wrong counts 13, then 1, 2, 3 when section 1 is whole, 14, and padding last
+pub read-numbers : map read-says (
+    []
+    ∷ (0 ∷ 0 ∷ 0 ∷ [])
+    ∷ (0xFF ∷ 0xFF ∷ 0xFF ∷ 0xFF ∷ [])
+    ∷ (0 ∷ 0 ∷ 0 ∷ 4 ∷ [])
+    ∷ take 13 (set fileB 5 0)
+    ∷ take 14 (set fileB 5 0)
+    ∷ set (set fileB 4 1) 5 1
+    ∷ set fileB 11 9
+    ∷ set (set fileB 11 10) 12 2
+    ∷ take 14 fileB
+    ∷ set fileB 17 3
+    ∷ take 19 fileB
+    ∷ take 20 fileB
+    ∷ set fileB 23 1
+    ∷ take 25 fileB
+    ∷ take 29 fileB
+    ∷ set fileB 29 7
+    ∷ take 45 fileB
+    ∷ (fileB ++ 0 ∷ [])
+    ∷ (set (set fileB 5 7) 29 7 ++ 0 ∷ [])
+    ∷ take 44 (set (set fileB 5 7) 29 7)
+    ∷ take 44 (set (set (set fileB 5 7) 29 7) 19 0xFE)
+    ∷ [])
+    ≡ (12 ∷ []) ∷ (12 ∷ []) ∷ (13 ∷ []) ∷ (13 ∷ []) ∷ (12 ∷ []) ∷ (1 ∷ []) ∷ (1 ∷ []) ∷ (2 ∷ []) ∷ (3 ∷ []) ∷ (12 ∷ []) ∷ (13 ∷ []) ∷ (12 ∷ []) ∷ (12 ∷ []) ∷ (13 ∷ [])
+    ∷ (12 ∷ []) ∷ (12 ∷ []) ∷ (13 ∷ []) ∷ (12 ∷ []) ∷ (14 ∷ []) ∷ (14 ∷ []) ∷ (7 ∷ []) ∷ (8 ∷ [])
+    ∷ []
+unfolding some within sized rowBytes rowsOf stackBytes paddingSet ringsIn settable reachOf headEnd partEnd supportCount supportEnd ringCount jobEnd settingsIn storedIn partIn supportIn layoutOf reachCases settingCases sectionCases readCases readRefusal readAnswer fileB read-says
+read-numbers = refl
+
+-- copying rings: 6 for a wrong number of them, after what reading tests; and a job without support
+pub copy-numbers :
+    saysCopied (copyAnswer fileB 8) ∷ saysCopied (copyAnswer fileB 7) ∷ saysCopied (copyAnswer (fileB ++ 0 ∷ []) 7)
+    ∷ saysCopied (copyAnswer (take 20 fileB ++ 0 ∷ 0 ∷ 0 ∷ 0 ∷ 0 ∷ 0 ∷ 0 ∷ 0 ∷ []) 0)
+    ∷ copyRings fileB (9 ∷ 9 ∷ [])
+    ∷ []
+    ≡ (0 ∷ []) ∷ (6 ∷ []) ∷ (14 ∷ []) ∷ (0 ∷ []) ∷ (9 ∷ 9 ∷ []) ∷ []
+unfolding some within sized rowBytes rowsOf stackBytes paddingSet ringsIn settable reachOf headEnd partEnd supportCount supportEnd ringCount jobEnd settingsIn storedIn partIn supportIn ringsStored reachCases settingCases sectionCases readCases copyCases copyAnswer copyRings fileB
+copy-numbers = refl
+
+pub job7 : List ℕ → List ℕ → List ℕ → Job
+job7 part sup ring = record { settings = settings 7 1 2 100 200; part = part; support = sup; rings = ring }
+
+-- writing: lengths before padding, padding before room; without support no rings
+pub write-numbers :
+    map (λ j. saysWritten (writeAnswer j 45)) (
+    job7 (1 ∷ []) (1 ∷ []) []
+    ∷ job7 (1 ∷ 1 ∷ []) (1 ∷ []) []
+    ∷ job7 (1 ∷ 1 ∷ []) (1 ∷ 1 ∷ []) []
+    ∷ job7 (1 ∷ 1 ∷ []) [] (0 ∷ [])
+    ∷ job7 (1 ∷ 1 ∷ []) (1 ∷ 1 ∷ []) (each 0 7 (λ x. 0))
+    ∷ job7 (2 ∷ 2 ∷ []) (1 ∷ 1 ∷ []) (each 0 7 (λ x. 0))
+    ∷ job7 (2 ∷ 2 ∷ []) (4 ∷ 4 ∷ []) (each 0 7 (λ x. 0))
+    ∷ job7 (2 ∷ 2 ∷ []) [] []
+    ∷ jobB
+    ∷ [])
+    ≡ (4 ∷ []) ∷ (5 ∷ []) ∷ (6 ∷ []) ∷ (6 ∷ []) ∷ (7 ∷ []) ∷ (8 ∷ []) ∷ (0 ∷ 44 ∷ []) ∷ (0 ∷ 28 ∷ []) ∷ (16 ∷ []) ∷ []
+unfolding some each within sized rowBytes rowsOf stackBytes paddingSet ringsIn settable reachOf headEnd partEnd supportEnd ringCount jobEnd storedRows fileLength reachCases settingCases writeCases writeRefusal writeAnswer settings jobB job7
+write-numbers = refl
+
+-- The report ---------------------------------------------------------------------------------------------------------------
+
+-- `job 12 1 1 reach 10`, `0 12 0 0`; and `refused 12`
+pub report-texts :
+    reportOf (0 ∷ 0 ∷ 0 ∷ 5 ∷ 0 ∷ 12 ∷ 0 ∷ 1 ∷ 0 ∷ 1 ∷ 0 ∷ 10 ∷ 0 ∷ 109 ∷ 0 ∷ 0 ∷ 0 ∷ 1 ∷ 0xFF ∷ 0xF0 ∷ 0 ∷ 0 ∷ 0 ∷ 0 ∷ 0 ∷ 0 ∷ 0 ∷ 0 ∷ [])
+    ∷ reportOf []
+    ∷ []
+    ≡ (106 ∷ 111 ∷ 98 ∷ 32 ∷ 49 ∷ 50 ∷ 32 ∷ 49 ∷ 32 ∷ 49 ∷ 32 ∷ 114 ∷ 101 ∷ 97 ∷ 99 ∷ 104 ∷ 32 ∷ 49 ∷ 48 ∷ 10 ∷ 48 ∷ 32 ∷ 49 ∷ 50 ∷ 32 ∷ 48 ∷ 32 ∷ 48 ∷ 10 ∷ [])
+    ∷ (114 ∷ 101 ∷ 102 ∷ 117 ∷ 115 ∷ 101 ∷ 100 ∷ 32 ∷ 49 ∷ 50 ∷ 10 ∷ [])
+    ∷ []
+unfolding bit some count each joinedUp within sized rowBytes bitAt pixel rowsOf stackBytes paddingSet byteOf bytesOf ringsIn ringAt settable reachOf square boundOf shadow excused supportUnder topOf planned empty rings plannedRings plannedBytes headEnd partEnd supportCount supportEnd ringCount jobEnd settingsIn storedIn partIn supportIn reachCases settingCases sectionCases readCases digits decimal spaced refusedLine jobLine filled excusedAbove layerLine planLines reportCases reportOf
+report-texts = refl
