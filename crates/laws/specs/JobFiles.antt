@@ -256,37 +256,89 @@ pub length-file : (j : Job) → Writable j → length (fileOf j) ≡ fileLength 
 unfolding fileOf fileLength jobEnd supportEnd partEnd headEnd
 length-file j v = simp (length-append, length-put16s) (omega (arith, v .part, v .support, ap (λ (k : ℕ). k * 2) (v .rings)))
 
+-- Writing, part by part --------------------------------------------------------------------------------------------------
+
+-- the lengths of part, support and rings
+unfoldable pub writeLengths : Settings → ℕ → ℕ → ℕ → List Case
+writeLengths s part support rings =
+    (4 when not (eqb part (stackBytes s)))
+    ∷ (5 when not (eqb support 0 || eqb support (stackBytes s)))
+    ∷ (6 when not (eqb rings (ringCount s (storedRows s support))))
+    ∷ []
+
+-- the padding of part and support
+unfoldable pub writePadding : Settings → List ℕ → List ℕ → List Case
+writePadding s part support =
+    (7 when paddingSet (s .w) (rowsOf s) part) ∷ (8 when paddingSet (s .w) (storedRows s (length support)) support) ∷ []
+
+-- the job's length
+unfoldable pub writeRoom : Job → ℕ → List Case
+writeRoom j room = (15 when ltb 4294967295 (fileLength j)) ∷ (16 when ltb room (fileLength j)) ∷ []
+
+abbrev pub lengthRefusal : Job → ℕ
+lengthRefusal j = refusal (writeLengths (j .settings) (length (j .part)) (length (j .support)) (length (j .rings)))
+
+pub write-parts : (j : Job) (room : ℕ) →
+    writeRefusal j room
+    ≡ orElse (refusal (settingCases (j .settings)))
+    (orElse (lengthRefusal j) (orElse (refusal (writePadding (j .settings) (j .part) (j .support))) (refusal (writeRoom j room))))
+unfolding writeRefusal writeCases writeLengths writePadding writeRoom numbered
+write-parts j room =
+    let s : Settings = j .settings in
+    let a : List Case = writeLengths s (length (j .part)) (length (j .support)) (length (j .rings)) in
+    let b : List Case = writePadding s (j .part) (j .support) in
+    let c : List Case = writeRoom j room in
+    refusal-append (settingCases s) (a ++ (b ++ c)) (settings-numbered s)
+    ∙ ap (orElse (refusal (settingCases s))) (refusal-append a (b ++ c) refl ∙ ap (orElse (refusal a)) (refusal-append b c refl))
+
+-- lengths that are right
+pub record Fits (s : Settings) (a b c : ℕ) : Type 0 where
+  pub part : a ≡ stackBytes s
+  pub support : b ≡ storedRows s b * rowBytes (s .w)
+  pub rings : c ≡ ringCount s (storedRows s b)
+
+pub lengths-out : (s : Settings) (a b c : ℕ) → refusal (writeLengths s a b c) ≡ 0 → Fits s a b c
+unfolding writeLengths
+lengths-out s a b c e =
+    let b5 : Bool = not (eqb b 0 || eqb b (stackBytes s)) in
+    let b6 : Bool = not (eqb c (ringCount s (storedRows s b))) in
+    let p4 = case-out (not (eqb a (stackBytes s))) 3 (cond b5 5 (cond b6 6 0)) e in
+    let p5 = case-out b5 4 (cond b6 6 0) (p4 .1) in
+    record {
+      part = eqb-true _ _ (not-false _ (p4 .0));
+      support = stored-out s b (not-false _ (p5 .0));
+      rings = eqb-true _ _ (not-false _ (case-out b6 5 0 (p5 .1) .0));
+    }
+
+-- every test passed but that of the room
+pub writable-in : (j : Job) → refusal (settingCases (j .settings)) ≡ 0 → lengthRefusal j ≡ 0 → refusal (writePadding (j .settings) (j .part) (j .support)) ≡ 0 → Writable j
+unfolding writePadding
+writable-in j e l p =
+    let s : Settings = j .settings in
+    let f = lengths-out s (length (j .part)) (length (j .support)) (length (j .rings)) l in
+    let b8 : Bool = paddingSet (s .w) (rowsStored j) (j .support) in
+    let p7 = case-out (paddingSet (s .w) (rowsOf s) (j .part)) 6 (cond b8 8 0) p in
+    record {
+      settings = e;
+      part = f .part;
+      support = f .support;
+      rings = f .rings;
+      part-clear = p7 .0;
+      support-clear = case-out b8 7 0 (p7 .1) .0;
+    }
+
 writable-out : (j : Job) (room : ℕ) → writeRefusal j room ≡ 0 → Writable j × (fileLength j ≤ room)
-unfolding writeRefusal writeCases
+unfolding writeRoom
 writable-out j room e =
     let s : Settings = j .settings in
-    let k : ℕ = length (j .support) in
-    let b4 : Bool = not (eqb (length (j .part)) (stackBytes s)) in
-    let b5 : Bool = not (eqb k 0 || eqb k (stackBytes s)) in
-    let b6 : Bool = not (eqb (length (j .rings)) (ringCount s (storedRows s k))) in
-    let b7 : Bool = paddingSet (s .w) (rowsOf s) (j .part) in
-    let b8 : Bool = paddingSet (s .w) (storedRows s k) (j .support) in
-    let b15 : Bool = ltb 4294967295 (fileLength j) in
+    let d : ℕ = refusal (writePadding s (j .part) (j .support)) in
+    let r : ℕ = refusal (writeRoom j room) in
+    let p = else-both (refusal (settingCases s)) (orElse (lengthRefusal j) (orElse d r)) (sym (write-parts j room) ∙ e) in
+    let q = else-both (lengthRefusal j) (orElse d r) (p .1) in
+    let t = else-both d r (q .1) in
     let b16 : Bool = ltb room (fileLength j) in
-    let l : List Case = (4 when b4) ∷ (5 when b5) ∷ (6 when b6) ∷ (7 when b7) ∷ (8 when b8) ∷ (15 when b15) ∷ (16 when b16) ∷ [] in
-    let p = else-both (refusal (settingCases s)) (refusal l) (sym (refusal-append (settingCases s) l (settings-numbered s)) ∙ e) in
-    let p4 = case-out b4 3 _ (p .1) in
-    let p5 = case-out b5 4 _ (p4 .1) in
-    let p6 = case-out b6 5 _ (p5 .1) in
-    let p7 = case-out b7 6 _ (p6 .1) in
-    let p8 = case-out b8 7 _ (p7 .1) in
-    let p15 = case-out b15 14 _ (p8 .1) in
-    let p16 = case-out b16 15 0 (p15 .1) in (
-      record {
-        settings = p .0;
-        part = eqb-true _ _ (not-false _ (p4 .0));
-        support = stored-out s k (not-false _ (p5 .0));
-        rings = eqb-true _ _ (not-false _ (p6 .0));
-        part-clear = p7 .0;
-        support-clear = p8 .0;
-      },
-      ltb-false _ _ (p16 .0),
-    )
+    let u = case-out (ltb 4294967295 (fileLength j)) 14 (cond b16 16 0) (t .1) in
+    (writable-in j (p .0) (q .0) (t .0), ltb-false _ _ (case-out b16 15 0 (u .1) .0))
 
 -- for a job in order the room alone decides
 module _ (j : Job) (room : ℕ) (v : Writable j) where

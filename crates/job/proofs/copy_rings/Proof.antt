@@ -1,0 +1,44 @@
+use mathlib.Core.Path.{refl, sym, ap, _∙_}
+use lib.ListN.{length}
+use denote.Ref.{now}
+use Rattle.rules.specs.Jobs.{ringsStored, get16s}
+use Rattle.rules.specs.Calls.{copyAnswer, copyRings}
+use Rattle.rules.specs.declared.Layout.{Layout}
+use Rattle.rules.specs.declared.CopiedRings.the-variants.{Copied, Refused}
+use Rattle.job.specs.Reading.{copying}
+use Rattle.job.specs.Steps.{says-no, says-yes}
+use borrow.Author.Needs.{needs}
+use Rattle.job.proofs.copy_rings.Statement.{statement}
+use Rattle.job.proofs.copy_rings.Tie as tie
+
+copy-refusal-requires : tie.Need-copy-refusal-requires
+copy-refusal-requires c κs = search needs
+
+returns : tie.Need-returns
+unfolding copyAnswer copyRings
+returns c = (says-no Copied Refused (c .before .copy-refusal .ensures) (c .if1 .taken), says-no (ringsStored (now (c .before .before .before .before .args .file))) (λ k. now (c .before .before .before .before .args .rings)) (c .before .copy-refusal .ensures) (c .if1 .taken))
+
+layout-requires : tie.Need-layout-requires
+layout-requires c κs = copying _ _ (sym (c .before .copy-refusal .ensures) ∙ c .if1 .left) .accepted
+
+get16s-requires : tie.Need-get16s-requires
+get16s-requires c κs =
+    let v = copying _ _ (sym (c .before .before .before .copy-refusal .ensures) ∙ c .before .before .if1 .left) in
+    rw (← c .before .layout .ensures) at (v .fits)
+
+same-length : tie.Need-same-length
+same-length c = search needs
+
+returns-2 : tie.Need-returns-2
+unfolding copyAnswer copyRings
+returns-2 c =
+    let v = copying _ _ (sym (c .before .before .before .before .before .before .copy-refusal .ensures) ∙ c .before .before .before .before .before .if1 .left) in (
+      says-yes Copied Refused (c .before .before .before .before .before .before .copy-refusal .ensures) (c .before .before .before .before .before .if1 .left) refl,
+      says-yes (ringsStored (now (c .before .before .before .before .before .before .before .before .before .args .file))) (λ k. now (c .before .before .before .before .before .before .before .before .before .args .rings)) (c .before .before .before .before .before .before .copy-refusal .ensures) (c .before .before .before .before .before .if1 .left)
+          (c .before .before .get16s .ensures ∙ ap (λ (l : Layout). get16s (now (c .before .before .before .before .before .before .before .before .before .args .file)) (l .rings) (length (now (c .before .before .before .before .before .before .before .before .before .args .rings)))) (c .before .before .before .before .layout .ensures) ∙ v .all),
+    )
+
+pub copy-rings-spec : {M : Type 1} → statement M
+copy-rings-spec =
+    tie.close
+    (tie.spec copy-refusal-requires returns layout-requires get16s-requires same-length returns-2)

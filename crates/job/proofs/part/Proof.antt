@@ -1,0 +1,42 @@
+use mathlib.Core.Path.{sym, _∙_}
+use mathlib.Core.List.{[]}
+use denote.Ref.{now}
+use Rattle.rules.specs.Jobs.{partIn}
+use Rattle.rules.specs.Calls.{partAnswer}
+use Rattle.job.specs.Reading.{head-whole, behind}
+use Rattle.job.specs.Steps.{says-no, says-yes}
+use native.Mathlib.Omega.{arith}
+use borrow.Author.Needs.{needs}
+use Rattle.job.proofs.part.Statement.{statement}
+use Rattle.job.proofs.part.Tie as tie
+
+read-refusal-requires : tie.Need-read-refusal-requires
+read-refusal-requires c κs = search needs
+
+slice-aggregate-result : tie.Need-slice-aggregate-result
+slice-aggregate-result c = search needs
+
+returns : tie.Need-returns
+unfolding partAnswer
+returns c = says-no (partIn (now (c .before .before .before .before .args .file))) (λ k. []) (c .before .before .read-refusal .ensures) (c .before .if1 .taken)
+
+settings-in-requires : tie.Need-settings-in-requires
+settings-in-requires c κs = head-whole _ (sym (c .before .read-refusal .ensures) ∙ c .if1 .left)
+
+part-in-requires : tie.Need-part-in-requires
+part-in-requires c κs = let b = behind _ _ (sym (c .before .before .read-refusal .ensures) ∙ c .before .if1 .left) (c .settings-in .ensures) in (b .fine, c .settings-in .ensures, omega (arith, b .count))
+
+returns-2 : tie.Need-returns-2
+unfolding partAnswer
+returns-2 c = says-yes (partIn (now (c .before .before .before .before .before .args .file))) (λ k. []) (c .before .before .before .read-refusal .ensures) (c .before .before .if1 .left) (c .part-in .ensures)
+
+pub part-spec : {M : Type 1} → statement M
+part-spec =
+    tie.close
+    (tie.spec
+    read-refusal-requires
+    slice-aggregate-result
+    returns
+    settings-in-requires
+    part-in-requires
+    returns-2)

@@ -1,0 +1,4 @@
+pub mod Runs
+pub mod Steps
+pub mod Reading
+pub mod Writing
