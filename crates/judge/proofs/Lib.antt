@@ -3,3 +3,6 @@ pub mod Bits
 pub mod Finding
 pub mod Planes
 pub mod Rows
+pub mod Nearness
+pub mod Eight
+pub mod Verdicts

@@ -140,3 +140,6 @@ module _ (w h n i at bytes x : ℕ) (eb : bytes ≡ h * rowBytes w) (ea : at ≡
 
   pub rings-length : (l : List ℕ) → length l ≡ (n - 1) * (h * w) → length (cut x (x + h * w) l) ≡ h * w
   rings-length l el = cut-length x (x + h * w) (h * w) l refl (omega (arith, pair-in w h n i at bytes x eb ea ex li))
+
+pub fit-of : (a b m n : ℕ) → a ≤ m → b ≤ n → a * b ≤ m * n
+fit-of a b m n l k = mul-le-mul l k

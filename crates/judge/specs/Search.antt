@@ -1,12 +1,13 @@
 -- What a search answers, and what it looks at: the rows and planes of a stack as bytes.
 use mathlib.Core.Path.{_≡_}
 use mathlib.Core.Bool.{Bool, true, false, not, _&&_, _||_}
-use mathlib.Core.List.{List}
+use mathlib.Core.List.{List, [], _∷_}
 use Prim.Native.Nat.{ℕ, _+_, _-_, _*_, _/_, _%_, _≤_, _<_}
 use lib.Dec.{leb, ltb, eqb}
 use lib.ListN.{getD}
-use Rattle.rules.specs.Tools.{some}
-use Rattle.rules.specs.Images.{Plane, Stack, rowBytes, bitAt}
+use Rattle.rules.specs.Tools.{some, Case, _when_}
+use Rattle.rules.specs.Images.{Plane, Stack, rowBytes, bitAt, rowsOf, paddingSet}
+use Rattle.rules.specs.declared.Settings.{Settings}
 use Rattle.rules.specs.Planning.{seeds, reached, touch, source, fits}
 
 -- r is the first of a, a + 1, .., n - 1 that passes; n where none does
@@ -60,3 +61,10 @@ pub record Sized (w h : ℕ) : Type 0 where
   pub w-high : w ≤ 256
   pub h-low : 1 ≤ h
   pub h-high : h ≤ 256
+
+-- the refusals 7 and 8 of the checker's table
+unfoldable pub padCases : Settings → List ℕ → List ℕ → List Case
+padCases s part support =
+    (7 when paddingSet (s .w) (rowsOf s) part)
+    ∷ (8 when paddingSet (s .w) (rowsOf s) support)
+    ∷ []

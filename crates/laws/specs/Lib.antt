@@ -8,7 +8,6 @@ pub mod RoundTrips
 pub mod Demand3
 pub mod Soundness
 pub mod ReportLaws
-
 pub mod Tests
 pub mod Limits
 pub mod Discs

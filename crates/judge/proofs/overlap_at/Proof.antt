@@ -14,7 +14,7 @@ use Rattle.judge.proofs.overlap_at.Tie as tie
 use Rattle.judge.proofs.overlap_at.Reads as reads
 use Rattle.judge.proofs.overlap_at.Lts as lts
 use Rattle.judge.proofs.overlap_plane.Reads as overlap-plane-reads
-use Rattle.judge.proofs.row_bytes.Reads as row-bytes-reads
+use Rattle.limits.proofs.row_bytes.Reads as row-bytes-reads
 
 abbrev Inv-loop : tie.InvT-loop
 Inv-loop part sup w h n bytes area at₀ x₀ i₀ at x i = (i ≤ n) × (at ≡ i * bytes) × (x ≡ i * area) × ((y : ℕ) → y < x → y < n * (h * w) → flat w h (overlap (pixel w h part) (pixel w h sup)) y ≡ false)

@@ -13,7 +13,7 @@ use Rattle.judge.proofs.overlap_plane.Reads as reads
 use Rattle.judge.proofs.overlap_plane.Lts as lts
 use Rattle.judge.proofs.apart.Reads as apart-reads
 use Rattle.judge.proofs.overlap_row.Reads as overlap-row-reads
-use Rattle.judge.proofs.row_bytes.Reads as row-bytes-reads
+use Rattle.limits.proofs.row_bytes.Reads as row-bytes-reads
 
 abbrev Inv-loop : tie.InvT-loop
 Inv-loop part sup w h rb at₀ x₀ row₀ at x row = (row ≤ h) × (at ≡ row * rb) × (x ≡ row * w) × ((y : ℕ) → y < x → y < h * w → overlapHere (planeOf w part) (planeOf w sup) y ≡ false)

@@ -13,7 +13,7 @@ use Rattle.judge.proofs.unheld_at.Statement.{statement}
 use Rattle.judge.proofs.unheld_at.Tie as tie
 use Rattle.judge.proofs.unheld_at.Reads as reads
 use Rattle.judge.proofs.unheld_at.Lts as lts
-use Rattle.judge.proofs.row_bytes.Reads as row-bytes-reads
+use Rattle.limits.proofs.row_bytes.Reads as row-bytes-reads
 use Rattle.judge.proofs.unheld_plane.Reads as unheld-plane-reads
 
 abbrev Inv-loop : tie.InvT-loop

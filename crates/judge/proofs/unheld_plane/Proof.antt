@@ -13,7 +13,7 @@ use Rattle.judge.proofs.unheld_plane.Tie as tie
 use Rattle.judge.proofs.unheld_plane.Reads as reads
 use Rattle.judge.proofs.unheld_plane.Lts as lts
 use Rattle.judge.proofs.held.Reads as held-reads
-use Rattle.judge.proofs.row_bytes.Reads as row-bytes-reads
+use Rattle.limits.proofs.row_bytes.Reads as row-bytes-reads
 use Rattle.judge.proofs.unheld_row.Reads as unheld-row-reads
 
 abbrev Inv-loop : tie.InvT-loop

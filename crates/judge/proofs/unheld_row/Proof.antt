@@ -14,7 +14,7 @@ use Rattle.judge.proofs.unheld_row.Lts as lts
 use Rattle.judge.proofs.bare_bit.Reads as bare-bit-reads
 use Rattle.judge.proofs.hanging.Reads as hanging-reads
 use Rattle.judge.proofs.held.Reads as held-reads
-use Rattle.judge.proofs.row_bytes.Reads as row-bytes-reads
+use Rattle.limits.proofs.row_bytes.Reads as row-bytes-reads
 use Rattle.judge.proofs.smaller.Reads as smaller-reads
 
 abbrev Inv-loop : tie.InvT-loop
