@@ -1,0 +1,8 @@
+-- The laws that the proofs of the checker share.
+pub mod Bits
+pub mod Finding
+pub mod Planes
+pub mod Rows
+pub mod Nearness
+pub mod Eight
+pub mod Verdicts

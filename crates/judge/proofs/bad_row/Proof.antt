@@ -1,0 +1,82 @@
+use native.Mathlib.Omega.{arith}
+use borrow.Author.Needs.{needs}
+use Prim.Native.Nat.{_*_, _+_, _-_, _<_, _≤_, ℕ}
+use mathlib.Core.Bool.{false}
+use mathlib.Core.Logic.{⊎-elim}
+use mathlib.Core.Path.{_∙_, _≡_, refl, sym}
+use lib.ListN.{getD}
+use Rattle.judge.proofs.Eight.{no-ring, quiet-row}
+use Rattle.judge.proofs.Finding.{fails-more, least-none, least-one}
+use Rattle.judge.proofs.Rows.{area-fit, stretch-in}
+use Rattle.judge.specs.Search.{badHere, planeOf}
+use Rattle.judge.proofs.bad_row.Statement.{statement}
+use Rattle.judge.proofs.bad_row.Tie as tie
+use Rattle.judge.proofs.bad_row.Reads as reads
+use Rattle.judge.proofs.bad_row.Lts as lts
+use Rattle.judge.proofs.bad.Reads as bad-reads
+use Rattle.judge.proofs.quiet.Reads as quiet-reads
+
+abbrev Inv-loop : tie.InvT-loop
+Inv-loop low up rings half w h r q x c₀ c = (c ≤ w) × ((y : ℕ) → 0 ≤ y → y < c → badHere w h q (planeOf w low) (planeOf w up) (λ o. getD rings o 0) (r * w + y) ≡ false)
+
+abbrev μ-loop : tie.MeasureT-loop
+μ-loop low up rings half w h r q x c₀ c = w - c
+
+mul-x : tie.Need-mul-x Inv-loop μ-loop
+mul-x c = omega (arith, stretch-in (c .before .before .before .before .args .r) (c .before .before .before .before .args .h) (c .before .before .before .before .args .w) (c .before .before .before .before .args .r * c .before .before .before .before .args .w) refl (c .before .before .before .before .pre .0 .1), area-fit _ _ (c .before .before .before .before .pre .0 .0))
+
+quiet-requires : tie.Need-quiet-requires Inv-loop μ-loop
+quiet-requires c κs = omega (arith, stretch-in (c .before .before .before .before .args .r) (c .before .before .before .before .args .h) (c .before .before .before .before .args .w) (c .before .before .before .before .args .r * c .before .before .before .before .args .w) refl (c .before .before .before .before .pre .0 .1))
+
+returns : tie.Need-returns Inv-loop μ-loop
+returns c = least-none 0 (c .before .before .before .before .before .before .args .w) _ (omega arith) (quiet-row (c .before .before .before .before .before .before .args .w) (c .before .before .before .before .before .before .args .h) (c .before .before .before .before .before .before .args .q) (planeOf (c .before .before .before .before .before .before .args .w) (c .before .before .before .before .before .before .args .low .now)) (planeOf (c .before .before .before .before .before .before .args .w) (c .before .before .before .before .before .before .args .up .now)) (c .before .before .before .before .before .before .args .rings .now) (c .before .before .before .before .before .before .args .r) (c .before .before .before .before .before .before .args .r * c .before .before .before .before .before .before .args .w) refl (c .before .quiet .ensures (c .if1 .taken)))
+
+loop-holds : tie.Need-loop-holds Inv-loop μ-loop
+loop-holds c = (omega arith, λ y a l. absurd (omega arith))
+
+add-k : tie.Need-add-k Inv-loop μ-loop
+add-k c = omega (arith, stretch-in (c .before .before .before .before .before .before .before .before .args .r) (c .before .before .before .before .before .before .before .before .args .h) (c .before .before .before .before .before .before .before .before .args .w) (c .before .before .before .before .before .before .before .before .args .r * c .before .before .before .before .before .before .before .before .args .w) refl (c .before .before .before .before .before .before .before .before .pre .0 .1), area-fit _ _ (c .before .before .before .before .before .before .before .before .pre .0 .0))
+
+mul-k : tie.Need-mul-k Inv-loop μ-loop
+mul-k c = omega (arith, stretch-in (c .before .before .before .before .before .before .before .before .args .r) (c .before .before .before .before .before .before .before .before .args .h) (c .before .before .before .before .before .before .before .before .args .w) (c .before .before .before .before .before .before .before .before .args .r * c .before .before .before .before .before .before .before .before .args .w) refl (c .before .before .before .before .before .before .before .before .pre .0 .1), area-fit _ _ (c .before .before .before .before .before .before .before .before .pre .0 .0))
+
+shared-slice-read-k : tie.Need-shared-slice-read-k Inv-loop μ-loop
+shared-slice-read-k c = omega (arith, stretch-in (c .before .before .before .before .before .before .before .before .before .args .r) (c .before .before .before .before .before .before .before .before .before .args .h) (c .before .before .before .before .before .before .before .before .before .args .w) (c .before .before .before .before .before .before .before .before .before .args .r * c .before .before .before .before .before .before .before .before .before .args .w) refl (c .before .before .before .before .before .before .before .before .before .pre .0 .1))
+
+bad-requires : tie.Need-bad-requires Inv-loop μ-loop
+bad-requires c κs = ((omega arith, (c .before .before .before .before .before .before .before .before .before .before .pre .0 .0, (c .before .before .before .before .before .before .before .before .before .before .pre .0 .1, c .before .before .loop-test .taken))), (c .before .before .before .before .before .before .before .before .before .before .pre .1 .0, (refl, c .before .before .before .before .before .before .before .before .before .before .pre .1 .1)))
+
+returns-2 : tie.Need-returns-2 Inv-loop μ-loop
+returns-2 c = least-one 0 (c .before .before .before .before .before .before .before .before .before .before .before .before .args .w) _ (c .before .before .before .before .before .loop .c) (omega arith) (c .before .before .before .before .loop-test .taken) (c .before .before .before .before .before .loop .inv .1) (sym (c .before .bad .ensures) ∙ c .if3 .taken)
+
+add-c : tie.Need-add-c Inv-loop μ-loop
+add-c c = search needs
+
+loop-less : tie.Need-loop-less Inv-loop μ-loop
+loop-less c = search needs
+
+loop-again : tie.Need-loop-again Inv-loop μ-loop
+loop-again c = (omega arith, fails-more 0 (λ n. badHere (c .before .before .before .before .before .before .before .before .before .before .args .w) (c .before .before .before .before .before .before .before .before .before .before .args .h) (c .before .before .before .before .before .before .before .before .before .before .args .q) (planeOf (c .before .before .before .before .before .before .before .before .before .before .args .w) (c .before .before .before .before .before .before .before .before .before .before .args .low .now)) (planeOf (c .before .before .before .before .before .before .before .before .before .before .args .w) (c .before .before .before .before .before .before .before .before .before .before .args .up .now)) (λ o. getD (c .before .before .before .before .before .before .before .before .before .before .args .rings .now) o 0) (c .before .before .before .before .before .before .before .before .before .before .args .r * c .before .before .before .before .before .before .before .before .before .before .args .w + n)) (c .before .before .before .loop .c) (c .before .before .before .loop .inv .1) (⊎-elim (λ (a, b, e). sym (b .ensures) ∙ e .left) (λ a. no-ring (c .before .before .before .before .before .before .before .before .before .before .args .w) (c .before .before .before .before .before .before .before .before .before .before .args .h) (c .before .before .before .before .before .before .before .before .before .before .args .q) (planeOf (c .before .before .before .before .before .before .before .before .before .before .args .w) (c .before .before .before .before .before .before .before .before .before .before .args .low .now)) (planeOf (c .before .before .before .before .before .before .before .before .before .before .args .w) (c .before .before .before .before .before .before .before .before .before .before .args .up .now)) (λ o. getD (c .before .before .before .before .before .before .before .before .before .before .args .rings .now) o 0) (c .before .before .before .before .before .before .before .before .before .before .args .r * c .before .before .before .before .before .before .before .before .before .before .args .w + c .before .before .before .loop .c) (a .left)) (c .if2 .came)))
+
+returns-3 : tie.Need-returns-3 Inv-loop μ-loop
+returns-3 c = least-none 0 (c .before .before .before .before .before .before .before .before .args .w) _ (omega arith) (λ y a l. c .before .loop .inv .1 y a (omega arith))
+
+pub bad-row-spec : {M : Type 1} → statement M
+bad-row-spec =
+    tie.close
+    (tie.spec
+    Inv-loop
+    μ-loop
+    mul-x
+    quiet-requires
+    returns
+    loop-holds
+    add-k
+    mul-k
+    shared-slice-read-k
+    bad-requires
+    returns-2
+    add-c
+    loop-less
+    loop-again
+    returns-3)
