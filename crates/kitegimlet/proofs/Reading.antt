@@ -1,0 +1,85 @@
+-- What the answer of reading says of a file, and the stretches that it tells.
+use mathlib.Core.Path.{_≡_, refl, sym, ap, _∙_}
+use mathlib.Core.Bool.{Bool, true, false, cond}
+use mathlib.Core.List.{List, _++_}
+use Prim.Native.Nat.{ℕ, zero, suc, _+_, _-_, _*_, _≤_}
+use native.Mathlib.Omega.{arith}
+use lib.ListN.{length, take, drop}
+use Rattle.rules.specs.Tools.{answer}
+use Rattle.rules.specs.Images.{rowBytes, stackBytes}
+use Rattle.rules.specs.Jobs.{headEnd, partEnd, supportEnd, settingsIn, storedIn, layoutOf}
+use Rattle.rules.specs.Calls.{readRefusal, readAnswer}
+use Rattle.rules.specs.declared.Layout.{Layout}
+use Rattle.rules.specs.declared.ReadJob.{ReadJob}
+use Rattle.rules.specs.declared.ReadJob.the-variants.{Job, Refused}
+use Rattle.laws.specs.Refusals.{answer-fine, answer-refused}
+use Rattle.kitegimlet.specs.Packed.{told, toldIn, stretch, partStretch, supportStretch}
+
+-- a section is as long as what lies between its offset and the next count
+part-length : (f : List ℕ) → layoutOf f .support - 4 - layoutOf f .part ≡ stackBytes (settingsIn f)
+unfolding layoutOf partEnd
+part-length f = omega arith
+
+support-length : (f : List ℕ) → layoutOf f .rings - 4 - layoutOf f .support ≡ storedIn f * rowBytes (settingsIn f .w)
+unfolding layoutOf supportEnd
+support-length f = omega arith
+
+module _ (f : List ℕ) (r : ReadJob) (is : r ≡ readAnswer f) where
+  pub is-job : (l : Layout) → r ≡ Job l → (readRefusal f ≡ 0) × (l ≡ layoutOf f)
+  unfolding readAnswer
+  is-job l e = go (readRefusal f) refl (sym e ∙ is)
+    where
+      go : (k : ℕ) → readRefusal f ≡ k → Job l ≡ answer k (Job (layoutOf f)) Refused → (readRefusal f ≡ 0) × (l ≡ layoutOf f)
+      go zero z y = (z, cc)
+      go (suc k) z y = absurd (let x : _≡_ {A = ℕ} 0 1 = cc in omega arith)
+
+  pub is-refused : (k : ℕ) → r ≡ Refused k → (k ≡ readRefusal f) × (readRefusal f ≡ 0 → ⊥)
+  unfolding readAnswer
+  is-refused k e = go (readRefusal f) refl (sym e ∙ is)
+    where
+      go : (j : ℕ) → readRefusal f ≡ j → Refused k ≡ answer j (Job (layoutOf f)) Refused → (k ≡ readRefusal f) × (readRefusal f ≡ 0 → ⊥)
+      go zero z y = absurd (let x : _≡_ {A = ℕ} 0 1 = cc in omega arith)
+      go (suc j) z y = let x : k ≡ suc j = cc in (x ∙ sym z, λ n. omega arith)
+
+  -- reading: all told, or the number and nothing told
+  pub read-told : (l : Layout) (room now : List ℕ) → r ≡ Job l → now ≡ take (length room) (told l) ++ drop 10 room → (0 ≡ readRefusal f) × (now ≡ toldIn f room)
+  unfolding toldIn
+  read-told l room now e t =
+      let (z, y) = is-job l e in
+      (sym z, t ∙ ap (λ (x : Layout). take (length room) (told x) ++ drop 10 room) y ∙ sym (answer-fine (readRefusal f) _ (λ k. room) z))
+
+  pub read-kept : (k j : ℕ) (room : List ℕ) → r ≡ Refused k → j ≡ k → (j ≡ readRefusal f) × (room ≡ toldIn f room)
+  unfolding toldIn
+  read-kept k j room e w = let (y, n) = is-refused k e in (w ∙ y, sym (answer-refused (readRefusal f) _ (λ k. room) n))
+
+  -- the part
+  pub part-room : (l : Layout) → r ≡ Job l → l .part + 4 ≤ l .support
+  unfolding layoutOf partEnd
+  part-room l e = let (z, y) = is-job l e in rw y (omega arith)
+
+  pub part-yes : (l : Layout) (s : ℕ) → r ≡ Job l → s ≡ stretch (l .part) (l .support - 4 - l .part) → s ≡ partStretch f
+  unfolding partStretch
+  part-yes l s e t =
+      let (z, y) = is-job l e in
+      t ∙ ap (λ (x : Layout). stretch (x .part) (x .support - 4 - x .part)) y ∙ ap (stretch (layoutOf f .part)) (part-length f) ∙ sym (answer-fine (readRefusal f) _ (λ k. 0) z)
+
+  pub part-no : (k : ℕ) → r ≡ Refused k → 0 ≡ partStretch f
+  unfolding partStretch
+  part-no k e = let (y, n) = is-refused k e in sym (answer-refused (readRefusal f) _ (λ k. 0) n)
+
+  -- the support
+  pub support-room : (l : Layout) → r ≡ Job l → l .support + 4 ≤ l .rings
+  unfolding layoutOf supportEnd
+  support-room l e = let (z, y) = is-job l e in rw y (omega arith)
+
+  pub support-yes : (l : Layout) (s : ℕ) → r ≡ Job l → s ≡ cond (l .stored) (stretch (l .support) (l .rings - 4 - l .support)) 0 → s ≡ supportStretch f
+  unfolding supportStretch
+  support-yes l s e t =
+      let (z, y) = is-job l e in
+      t ∙ ap (λ (x : Layout). cond (x .stored) (stretch (x .support) (x .rings - 4 - x .support)) 0) y
+      ∙ ap (λ (n : ℕ). cond (layoutOf f .stored) (stretch (layoutOf f .support) n) 0) (support-length f)
+      ∙ sym (answer-fine (readRefusal f) _ (λ k. 0) z)
+
+  pub support-no : (k : ℕ) → r ≡ Refused k → 0 ≡ supportStretch f
+  unfolding supportStretch
+  support-no k e = let (y, n) = is-refused k e in sym (answer-refused (readRefusal f) _ (λ k. 0) n)

@@ -1,0 +1,19 @@
+use mathlib.Core.Path.{sym}
+use Rattle.rules.specs.Tools.{bit}
+use native.Mathlib.Omega.{arith}
+use borrow.Author.Needs.{needs}
+use Rattle.kitegimlet.proofs.flag.Statement.{statement}
+use Rattle.kitegimlet.proofs.flag.Tie as tie
+use Rattle.kitegimlet.proofs.flag.Reads as reads
+use Rattle.kitegimlet.proofs.flag.Lts as lts
+
+returns : tie.Need-returns
+unfolding bit
+returns c = simp (c .if1 .taken)
+
+returns-2 : tie.Need-returns-2
+unfolding bit
+returns-2 c = simp (c .if1 .left)
+
+pub flag-spec : {M : Type 1} → statement M
+flag-spec = tie.close (tie.spec returns returns-2)
