@@ -88,7 +88,7 @@ enum status read_file(const char *name, struct bytes *file)
     if (in == NULL)
         return fail_file(name, errno);
     enum status status = read_stream(in, name, file);
-    fclose(in);
+    fclose(in); /* was only read, so nothing can be lost */
     return status;
 }
 

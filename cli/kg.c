@@ -48,7 +48,7 @@ static enum status take_option(const struct command *command, const char *word, 
 static enum status take_operand(const struct command *command, const char *word, struct arguments *arguments)
 {
     if (arguments->count == command->operands)
-        return fail("'%s' is too much: %s", word, command->usage);
+        return fail("'%s' is one word too many; usage: %s", word, command->usage);
     arguments->operand[arguments->count++] = word;
     return DONE;
 }
@@ -80,7 +80,7 @@ static enum status run_command(const struct command *command, char *words[])
         return DONE;
     }
     if (arguments.count < command->operands)
-        return fail("words are missing: %s", command->usage);
+        return fail("too few words; usage: %s", command->usage);
     return command->run(&arguments);
 }
 
@@ -101,7 +101,7 @@ static enum status run(int count, char *words[])
 int main(int count, char *words[])
 {
     enum status status = run(count, words);
-    bool written = fflush(stdout) == 0 && !ferror(stdout);
+    bool written = fflush(stdout) == 0 && !ferror(stdout); /* covers every print before */
     if (!written && status != UNUSABLE)
         status = fail("standard output: could not be written");
     return status;
