@@ -1,0 +1,100 @@
+/* kg: plan, check and report. Each is one story of steps that stops at the first that does not answer DONE. */
+#include <inttypes.h>
+#include <stdio.h>
+
+#include "kg.h"
+
+enum status command_plan(const struct arguments *arguments)
+{
+    struct job job;
+    enum status status = job_read(&job, arguments->operand[0]);
+    if (status == DONE)
+        status = job_plan(&job);
+    if (status == DONE)
+        status = job_save(&job, arguments->operand[1]);
+    if (status == REFUSED)
+        complain(&job);
+    job_free(&job);
+    return status;
+}
+
+/* The library's verdict on what is stored. Nothing stored is no verdict, so it gets neither `accepted` nor a number. */
+static enum status judge_stored(struct job *job)
+{
+    if (!job->stored)
+        return fail("%s: no support is stored, so there is nothing to judge (kg plan stores some)", job->name);
+    enum status status = job_take_stored(job);
+    if (status != DONE)
+        return status;
+    job->answer = kg_check(job->w, job->h, job->n, job->pitch, job->overhang, job->part, job->stack_length,
+                           job->support, job->stack_length, job->rings, job->ring_count);
+    return kg_number(job->answer) == 0 ? DONE : REFUSED;
+}
+
+enum status command_check(const struct arguments *arguments)
+{
+    struct job job;
+    enum status status = job_read(&job, arguments->operand[0]);
+    if (status == DONE)
+        status = judge_stored(&job);
+    if (status == DONE)
+        puts("accepted");
+    if (status == REFUSED)
+        print_refusal(job.answer);
+    job_free(&job);
+    return status;
+}
+
+static unsigned bits_of(unsigned byte)
+{
+    unsigned count = 0;
+    for (; byte != 0; byte >>= 1)
+        count += byte & 1;
+    return count;
+}
+
+static uint64_t count_pixels(const struct job *job, const uint8_t *stack, uint64_t layer)
+{
+    const uint8_t *plane = job_plane(job, stack, layer);
+    uint64_t length = job->stack_length / job->n, count = 0;
+    for (uint64_t i = 0; i < length; i++)
+        count += bits_of(plane[i]);
+    return count;
+}
+
+/* Pixels with a ring in the pair above a layer; the top layer has no pair. */
+static uint64_t count_excused(const struct job *job, uint64_t layer)
+{
+    if (layer + 1 == job->n)
+        return 0;
+    const uint16_t *rings = job_rings(job, layer);
+    uint64_t count = 0;
+    for (uint64_t i = 0; i < job->w * job->h; i++)
+        count += rings[i] != 0;
+    return count;
+}
+
+static void print_report(const struct job *job)
+{
+    uint64_t reach = kg_value(kg_reach(job->pitch, job->overhang));
+    printf("job %" PRIu64 " %" PRIu64 " %" PRIu64 " reach %" PRIu64 "\n", job->w, job->h, job->n, reach);
+    for (uint64_t layer = job->n; layer-- > 0;)
+        printf("%" PRIu64 " %" PRIu64 " %" PRIu64 " %" PRIu64 "\n", layer, count_pixels(job, job->part, layer),
+               count_pixels(job, job->support, layer), count_excused(job, layer));
+}
+
+enum status command_report(const struct arguments *arguments)
+{
+    struct job job;
+    enum status status = job_read(&job, arguments->operand[0]);
+    if (status == DONE)
+        status = job_plan(&job);
+    if (status == DONE)
+        print_report(&job);
+    if (status == REFUSED) {
+        printf("refused %u\n", kg_number(job.answer)); /* the report program's own line */
+        complain(&job);
+    }
+    job_free(&job);
+    return status;
+}

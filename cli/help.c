@@ -1,0 +1,121 @@
+/* kg: the texts of --help. */
+#include "kg.h"
+
+#define JOB_NAMES \
+    "A job of - is standard input.\n"
+
+#define STATUSES(zero) \
+    "\nexit status\n" \
+    "  0  " zero "\n" \
+    "  1  refused, with a number of the help page, docs/REFUSALS.md\n" \
+    "  2  misuse, or a file that cannot be read or written; said in one line on\n" \
+    "     standard error\n"
+
+const char help_kg[] =
+    "kg plans support for 3D printing from a job's layer images, and judges\n"
+    "support that anyone made or painted.\n"
+    "\n"
+    "  kg plan IN OUT                plan support afresh and store it with the job\n"
+    "  kg check JOB                  judge the support that is stored\n"
+    "  kg report JOB                 count part, support and excused pixels by layer\n"
+    "  kg show JOB LAYER [--rings]   one layer as a picture, or its ring numbers\n"
+    "  kg COMMAND --help             more on a command, with examples\n"
+    "\n"
+    "IN, JOB and OUT are job files; - is standard input or standard output. Behind\n"
+    "-- a word that begins with - is a file name. Layers, rows and columns are\n"
+    "counted from 0: layer 0 stands on the platform, row 0 comes first, column 0 is\n"
+    "leftmost.\n"
+    "\n"
+    "examples\n"
+    "  kg plan lid.kg planned.kg\n"
+    "  kg check planned.kg\n"
+    "  kg show planned.kg 3\n"
+    STATUSES("done; for check: the stored support is accepted");
+
+const char help_plan[] =
+    "usage: kg plan IN OUT\n"
+    "\n"
+    "Reads the job IN, plans support and ring numbers afresh, and writes the job\n"
+    "with them to OUT. Support and rings that IN holds are not used.\n"
+    "\n"
+    "OUT is written only when all went well: first a temporary file beside it, which\n"
+    "then takes its name. So an old OUT can be read until the new one is whole, stays\n"
+    "as it is when the job is refused, and may be IN itself. IN may be - for standard\n"
+    "input, OUT may be - for standard output.\n"
+    "\n"
+    "examples\n"
+    "  kg plan lid.kg planned.kg\n"
+    "  kg plan lid.kg lid.kg             the plan takes the place of the old one\n"
+    "  kg plan - - <lid.kg >planned.kg\n"
+    STATUSES("OUT is written");
+
+const char help_check[] =
+    "usage: kg check JOB\n"
+    "\n"
+    "Judges the support and ring numbers that JOB holds, whoever made them. Prints\n"
+    "'accepted', or three lines: the refusal number with its place, what it means,\n"
+    "what to do about it. More support than a plan has is accepted where it is held\n"
+    "itself. " JOB_NAMES
+    "\n"
+    "A place is layer, row and column, counted from 0, the first that is wrong. For 9\n"
+    "(support inside the part) the layer is that of the pixel; for 10 (a wrong ring)\n"
+    "and 11 (a pixel that hangs) it is the upper layer of the pair.\n"
+    "\n"
+    "A job that holds no support has nothing to judge: this is said on standard error,\n"
+    "with status 2. A job that is planned has support stored, be it empty.\n"
+    "\n"
+    "examples\n"
+    "  kg check painted.kg\n"
+    "  kg plan lid.kg - | kg check -\n"
+    STATUSES("accepted");
+
+const char help_report[] =
+    "usage: kg report JOB\n"
+    "\n"
+    "Plans support afresh and prints what comes out. " JOB_NAMES
+    "Support that JOB holds is not used.\n"
+    "\n"
+    "  job W H N reach R       width and height in pixels, layers, reach in pixels\n"
+    "  L P S E                 for each layer, from the top down: layer, part pixels,\n"
+    "                          support pixels, excused pixels of the pair of layers\n"
+    "                          L and L+1\n"
+    "\n"
+    "An excused pixel is part of layer L+1 with no part below it that needs no\n"
+    "support: it is within reach of part of layer L and joined to part that stands on\n"
+    "part. A refused job prints 'refused' with the number, and the words for it on\n"
+    "standard error. Jobs of every size are taken.\n"
+    "\n"
+    "examples\n"
+    "  kg report lid.kg\n"
+    "  kg report lid.kg | awk 'NR > 1 { support += $3 } END { print support }'\n"
+    STATUSES("reported");
+
+const char help_show[] =
+    "usage: kg show JOB LAYER [--rings]\n"
+    "\n"
+    "Prints layer LAYER of JOB, counted from 0, as a picture, one character for each\n"
+    "pixel, after a line that says what is shown and a line with the characters:\n"
+    "\n"
+    "  #  part of this layer\n"
+    "  +  support in this layer\n"
+    "  o  excused: nothing is here, and the layer above has part here that needs no\n"
+    "     support\n"
+    "  .  empty\n"
+    "\n"
+    "So o is no part of this layer: it marks where the layer above runs out over\n"
+    "nothing and holds itself, beside + where it needs support. What is part or\n"
+    "support here is shown as that. In a planned job the picture has as many #, +\n"
+    "and o as the line of this layer in kg report.\n"
+    "\n"
+    "  --rings  in place of the picture the ring numbers of layers LAYER and LAYER+1\n"
+    "           as a table: 1 next to part that stands on part, 2 one step further\n"
+    "           out, and so on; 0 is no ring. The top layer has none.\n"
+    "\n"
+    "Support and rings are shown as they are stored, right or wrong (kg check judges\n"
+    "them); where none are stored they are planned afresh, and the first line says\n"
+    "so. " JOB_NAMES
+    "\n"
+    "examples\n"
+    "  kg show lid.kg 3\n"
+    "  kg show lid.kg 3 --rings | less -S\n"
+    STATUSES("shown");

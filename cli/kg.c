@@ -1,0 +1,108 @@
+/* kg: plans support, judges it, reports it and shows it, from job files. This file: arguments and main. */
+#include <stdio.h>
+#include <string.h>
+
+#include "kg.h"
+
+struct command {
+    const char *name;
+    const char *usage;
+    int operands;
+    bool has_rings; /* takes --rings */
+    const char *help;
+    enum status (*run)(const struct arguments *arguments);
+};
+
+static const struct command commands[] = {
+    {"plan", "kg plan IN OUT", 2, false, help_plan, command_plan},
+    {"check", "kg check JOB", 1, false, help_check, command_check},
+    {"report", "kg report JOB", 1, false, help_report, command_report},
+    {"show", "kg show JOB LAYER [--rings]", 2, true, help_show, command_show},
+};
+
+static bool is_help(const char *word)
+{
+    return strcmp(word, "--help") == 0 || strcmp(word, "-h") == 0;
+}
+
+static const struct command *find_command(const char *name)
+{
+    for (size_t i = 0; i < sizeof commands / sizeof commands[0]; i++)
+        if (strcmp(commands[i].name, name) == 0)
+            return &commands[i];
+    return NULL;
+}
+
+/* A word that begins with a dash and is more than a dash. */
+static enum status take_option(const struct command *command, const char *word, struct arguments *arguments)
+{
+    if (is_help(word))
+        arguments->help = true;
+    else if (command->has_rings && strcmp(word, "--rings") == 0)
+        arguments->rings = true;
+    else
+        return fail("unknown option '%s' (see kg %s --help)", word, command->name);
+    return DONE;
+}
+
+static enum status take_operand(const struct command *command, const char *word, struct arguments *arguments)
+{
+    if (arguments->count == command->operands)
+        return fail("'%s' is one word too many; usage: %s", word, command->usage);
+    arguments->operand[arguments->count++] = word;
+    return DONE;
+}
+
+/* The words behind the command; behind `--` every word is an operand. */
+static enum status take_words(const struct command *command, char *words[], struct arguments *arguments)
+{
+    bool options = true;
+    enum status status = DONE;
+    for (; *words != NULL && status == DONE; words++) {
+        if (options && strcmp(*words, "--") == 0)
+            options = false;
+        else if (options && (*words)[0] == '-' && (*words)[1] != '\0')
+            status = take_option(command, *words, arguments);
+        else
+            status = take_operand(command, *words, arguments);
+    }
+    return status;
+}
+
+static enum status run_command(const struct command *command, char *words[])
+{
+    struct arguments arguments = {{NULL, NULL}, 0, false, false};
+    enum status status = take_words(command, words, &arguments);
+    if (status != DONE)
+        return status;
+    if (arguments.help) {
+        fputs(command->help, stdout);
+        return DONE;
+    }
+    if (arguments.count < command->operands)
+        return fail("too few words; usage: %s", command->usage);
+    return command->run(&arguments);
+}
+
+static enum status run(int count, char *words[])
+{
+    if (count < 2)
+        return fail("no command given (see kg --help)");
+    if (is_help(words[1])) {
+        fputs(help_kg, stdout);
+        return DONE;
+    }
+    const struct command *command = find_command(words[1]);
+    if (command == NULL)
+        return fail("unknown command '%s' (see kg --help)", words[1]);
+    return run_command(command, words + 2);
+}
+
+int main(int count, char *words[])
+{
+    enum status status = run(count, words);
+    bool written = fflush(stdout) == 0 && !ferror(stdout); /* covers every print before */
+    if (!written && status != UNUSABLE)
+        status = fail("standard output: could not be written");
+    return status;
+}

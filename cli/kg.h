@@ -1,0 +1,108 @@
+/* kg, the command-line tool: what its files share.
+ *
+ * kg.c       arguments and main
+ * help.c     the texts of --help
+ * commands.c plan, check and report
+ * show.c     show
+ * job.c      a job in memory: read, planned, stored
+ * refusals.c refusal numbers in words
+ * files.c    files read whole and saved safely, memory, error messages
+ */
+#ifndef KG_TOOL_H
+#define KG_TOOL_H
+
+#include <stdbool.h>
+#include <stddef.h>
+#include <stdint.h>
+
+#include "kitegimlet.h"
+
+/* The exit statuses, also what functions answer that can fail. A function that answers UNUSABLE has told why on standard error;
+ * one that answers REFUSED has left the library's answer in the job. */
+enum status { DONE = 0, REFUSED = 1, UNUSABLE = 2 };
+
+/* The words behind `kg COMMAND`, options taken out. */
+struct arguments {
+    const char *operand[2];
+    int count;
+    bool help;
+    bool rings;
+};
+
+enum status command_plan(const struct arguments *arguments);
+enum status command_check(const struct arguments *arguments);
+enum status command_report(const struct arguments *arguments);
+enum status command_show(const struct arguments *arguments);
+
+extern const char help_kg[], help_plan[], help_check[], help_report[], help_show[];
+
+/* files.c */
+
+struct bytes {
+    uint8_t *data;
+    size_t length;
+};
+
+/* Says `kg: ...` on standard error, one line, and answers UNUSABLE. */
+enum status fail(const char *format, ...);
+
+/* Zeroed memory for `count` elements, also for 0 of them; or null, which it tells. */
+void *room(uint64_t count, size_t size);
+
+/* How a file is named in messages. */
+const char *shown_name(const char *name);
+
+/* Reads a whole file, or standard input for `-`. The caller frees file->data, also after a failure. */
+enum status read_file(const char *name, struct bytes *file);
+
+/* Writes a whole file, or standard output for `-`. A file is replaced only once the new one is written and safe. */
+enum status save_file(const char *name, const struct bytes *content);
+
+/* job.c */
+
+struct job {
+    const char *name;
+    struct bytes file;
+    kg_answer answer; /* the library's last answer */
+
+    uint64_t w, h, n;
+    uint32_t pitch, overhang;
+    bool stored; /* the file holds support */
+    uint64_t part_at;
+
+    const uint8_t *part;
+    uint64_t stack_length; /* bytes of the part, and of the support */
+
+    const uint8_t *support; /* stored or planned; null before */
+    uint8_t *planned;
+    uint16_t *rings;
+    uint64_t ring_count;
+};
+
+/* Reads a job's settings and part. Whatever this answers, job_free is to be called at the end. */
+enum status job_read(struct job *job, const char *name);
+
+/* Support and rings as the file holds them; only where job->stored. */
+enum status job_take_stored(struct job *job);
+
+/* Support and rings planned afresh. */
+enum status job_plan(struct job *job);
+
+/* Saves the job with its support and rings. */
+enum status job_save(struct job *job, const char *name);
+
+void job_free(struct job *job);
+
+const uint8_t *job_plane(const struct job *job, const uint8_t *stack, uint64_t layer);
+const uint16_t *job_rings(const struct job *job, uint64_t layer);
+bool job_pixel(const struct job *job, const uint8_t *plane, uint64_t row, uint64_t column);
+
+/* refusals.c */
+
+/* A refusal as an answer: three lines on standard output. */
+void print_refusal(kg_answer answer);
+
+/* A refusal as an error: one line on standard error. */
+void complain(const struct job *job);
+
+#endif
