@@ -15,12 +15,14 @@ use rules::Micrometres;
 use rules::Settings;
 ghost use mathlib.Core.Path.{_≡_};
 ghost use Prim.Native.Nat.{_+_, _*_, _≤_, _<_};
-ghost use lib.Dec.{eqb};
+ghost use lib.Dec.{ltb, eqb};
 ghost use lib.ListN.{length};
+ghost use mathlib.Core.Bool.{cond};
 ghost use Rattle.rules.specs.Tools.{refusal};
 ghost use Rattle.rules.specs.Images.{rowBytes, rowsOf};
-ghost use Rattle.rules.specs.Jobs.{be32, headEnd, partEnd, supportCount, supportEnd, ringCount, settingsIn, partIn, supportIn, layoutOf};
+ghost use Rattle.rules.specs.Jobs.{be32, headEnd, partEnd, supportCount, supportEnd, ringCount, jobEnd, settingsIn, partIn, supportIn, layoutOf};
 ghost use Rattle.rules.specs.Calls.{settingCases, sectionCases, readRefusal, copyCases};
+ghost use Rattle.laws.specs.Refusals.{orElse};
 ghost use Rattle.laws.specs.JobFiles.{paddingRefusal, ringsRefusal, bodyRefusal};
 ghost use Rattle.job.specs.Reading.{oneOf, Stored};
 
@@ -142,6 +144,21 @@ fn padding(f: &[u8], s: Settings, c: usize) -> u8
     0
 }
 
+// Bytes after section 4.
+fn after_end(s: Settings, c: usize, length: usize) -> u8
+    requires { ⌜ (refusal (settingCases s) ≡ 0) × (c ≤ 131072) ⌝ }
+    ensures { λ r. ⌜ r ≡ cond (ltb (jobEnd s c) length) 14 0 ⌝ }
+{
+    if job_end(s, c) < length { 14 } else { 0 }
+}
+
+// The first of two answers that refuses.
+fn first_of(a: u8, b: u8) -> u8
+    ensures { λ r. ⌜ r ≡ orElse a b ⌝ }
+{
+    if a == 0 { b } else { a }
+}
+
 // From section 4 on, where section 3 has the count `c` and is whole.
 fn from_rings(f: &[u8], s: Settings, c: usize) -> u8
     requires { ⌜ Stored (now f) s c ⌝ }
@@ -151,10 +168,9 @@ fn from_rings(f: &[u8], s: Settings, c: usize) -> u8
     if k != 0 {
         return k;
     }
-    if job_end(s, c) < f.len() {
-        return 14;
-    }
-    padding(f, s, c)
+    let m = after_end(s, c, f.len());
+    let p = padding(f, s, c);
+    first_of(m, p)
 }
 
 // From section 2 on.
@@ -213,9 +229,9 @@ pub fn layout(f: &[u8]) -> Layout
 pub fn copy_refusal(f: &[u8], room: usize) -> u8
     ensures { λ r. ⌜ r ≡ refusal (copyCases (now (f .entry)) room) ⌝ }
 {
-    let k = read_refusal(f);
-    if k != 0 {
-        return k;
+    let read = read_refusal(f);
+    if read != 0 {
+        return read;
     }
     let s = settings_in(f);
     let c = stored_in(f, s);

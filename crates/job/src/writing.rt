@@ -23,7 +23,7 @@ ghost use Rattle.rules.specs.Images.{rowBytes, stackBytes};
 ghost use Rattle.rules.specs.Jobs as jobs;
 ghost use Rattle.rules.specs.Jobs.{storedRows, headOf, fileOf, fileLength, over};
 ghost use Rattle.rules.specs.Calls.{settingCases, writeRefusal};
-ghost use Rattle.laws.specs.JobFiles.{Writable, writeLengths, writePadding};
+ghost use Rattle.laws.specs.JobFiles.{Writable, writeLengths, writePadding, writeRoom};
 ghost use Rattle.job.specs.Writing.{job};
 
 // The count of section 3 for support of `k` bytes.
@@ -67,7 +67,19 @@ fn padding_refusal(s: Settings, part: &[u8], support: &[u8]) -> u8
     0
 }
 
-// Writing to a buffer with room for so many bytes. 15 is never given: the longest job has 75,366,426 bytes.
+fn room_refusal(length: usize, room: usize) -> u8
+    ensures { λ r. ⌜ r ≡ refusal (writeRoom length room) ⌝ }
+{
+    if 4294967295 < length {
+        return 15;
+    }
+    if room < length {
+        return 16;
+    }
+    0
+}
+
+// Writing to a buffer with room for so many bytes.
 pub fn write_refusal(s: Settings, part: &[u8], support: &[u8], rings: &[u16], room: usize) -> u8
     ensures { λ r. ⌜ r ≡ writeRefusal (job s (now (part .entry)) (now (support .entry)) (now (rings .entry))) room ⌝ }
 {
@@ -84,10 +96,7 @@ pub fn write_refusal(s: Settings, part: &[u8], support: &[u8], rings: &[u16], ro
         return p;
     }
     let c = stored_rows(s, support.len());
-    if room < job_end(s, c) {
-        return 16;
-    }
-    0
+    room_refusal(job_end(s, c), room)
 }
 
 // Section 1.

@@ -59,7 +59,7 @@ paddingRefusal f s c =
 unfoldable pub ringsRefusal : List ℕ → Settings → ℕ → ℕ
 ringsRefusal f s c =
     orElse (refusal (sectionCases f (supportEnd s c) (eqb (ringCount s c)) 2))
-    (cond (ltb (jobEnd s c) (length f)) 14 (paddingRefusal f s c))
+    (orElse (cond (ltb (jobEnd s c) (length f)) 14 0) (paddingRefusal f s c))
 
 -- from section 2 on
 unfoldable pub bodyRefusal : List ℕ → Settings → ℕ
@@ -68,11 +68,13 @@ bodyRefusal f s =
     (orElse (refusal (sectionCases f (partEnd s) (supportCount s) (rowBytes (s .w)))) (ringsRefusal f s (be32 f (partEnd s))))
 
 pub read-parts : (f : List ℕ) → readRefusal f ≡ orElse (refusal (sectionCases f 0 (eqb 5) 2)) (orElse (refusal (settingCases (settingsIn f))) (bodyRefusal f (settingsIn f)))
-unfolding readRefusal readCases bodyRefusal ringsRefusal paddingRefusal sectionCases settingCases reachCases storedIn
+unfolding readRefusal readCases bodyRefusal ringsRefusal paddingRefusal sectionCases settingCases reachCases storedIn numbered
 read-parts f =
     let s : Settings = settingsIn f in
     let c : ℕ = storedIn f in
-    let l : List Case = (14 when ltb (jobEnd s c) (length f)) ∷ (7 when paddingSet (s .w) (rowsOf s) (partIn f)) ∷ (8 when paddingSet (s .w) c (supportIn f)) ∷ [] in
+    let x : List Case = (14 when ltb (jobEnd s c) (length f)) ∷ [] in
+    let y : List Case = (7 when paddingSet (s .w) (rowsOf s) (partIn f)) ∷ (8 when paddingSet (s .w) c (supportIn f)) ∷ [] in
+    let l : List Case = x ++ y in
     let a : List Case = sectionCases f 0 (eqb 5) 2 in
     let b : List Case = settingCases s in
     let g : List Case = sectionCases f headEnd (eqb (rowsOf s)) (rowBytes (s .w)) in
@@ -86,7 +88,8 @@ read-parts f =
     ∙ ap (orElse (refusal g))
     (refusal-append h (i ++ l) (section-numbered f (partEnd s) (supportCount s) (rowBytes (s .w)))
     ∙ ap (orElse (refusal h))
-    (refusal-append i l (section-numbered f (supportEnd s c) (eqb (ringCount s c)) 2)))))
+    (refusal-append i l (section-numbered f (supportEnd s c) (eqb (ringCount s c)) 2)
+    ∙ ap (orElse (refusal i)) (refusal-append x y refl)))))
 
 -- A file that is accepted -----------------------------------------------------------------------------------------------------
 
@@ -110,10 +113,11 @@ accepted-out f e =
     let p1 = else-both (refusal (settingCases s)) (bodyRefusal f s) (p0 .1) in
     let p2 = else-both (refusal (sectionCases f headEnd (eqb (rowsOf s)) (rowBytes (s .w)))) _ (p1 .1) in
     let p3 = else-both (refusal (sectionCases f (partEnd s) (supportCount s) (rowBytes (s .w)))) (ringsRefusal f s c) (p2 .1) in
-    let p4 = else-both (refusal (sectionCases f (supportEnd s c) (eqb (ringCount s c)) 2)) (cond (ltb (jobEnd s c) (length f)) 14 (paddingRefusal f s c)) (p3 .1) in
+    let x : Bool = ltb (jobEnd s c) (length f) in
+    let p4 = else-both (refusal (sectionCases f (supportEnd s c) (eqb (ringCount s c)) 2)) (orElse (cond x 14 0) (paddingRefusal f s c)) (p3 .1) in
+    let p5 = else-both (cond x 14 0) (paddingRefusal f s c) (p4 .1) in
     let y : Bool = paddingSet (s .w) (rowsOf s) (partIn f) in
     let z : Bool = paddingSet (s .w) c (supportIn f) in
-    let p5 = case-out (ltb (jobEnd s c) (length f)) 13 (cond y 7 (cond z 8 0)) (p4 .1) in
     let p6 = case-out y 6 (cond z 8 0) (p5 .1) in
     let one = section-out f 0 (eqb 5) 2 (p0 .0) in
     let two = section-out f headEnd (eqb (rowsOf s)) (rowBytes (s .w)) (p2 .0) in
@@ -121,7 +125,7 @@ accepted-out f e =
     let four = section-out f (supportEnd s c) (eqb (ringCount s c)) 2 (p4 .0) in
     let rc : be32 f (supportEnd s c) ≡ ringCount s c = sym (eqb-true _ _ (four .right)) in
     let low : supportEnd s c + 4 + ringCount s c * 2 ≤ length f = rw rc at (four .fits) in
-    let high : length f ≤ supportEnd s c + 4 + ringCount s c * 2 = ltb-false _ _ (p5 .0) in
+    let high : length f ≤ supportEnd s c + 4 + ringCount s c * 2 = ltb-false _ _ (case-out x 13 0 (p5 .0) .0) in
     record {
       first = sym (eqb-true _ _ (one .right));
       settings = p1 .0;
@@ -271,9 +275,9 @@ unfoldable pub writePadding : Settings → List ℕ → List ℕ → List Case
 writePadding s part support =
     (7 when paddingSet (s .w) (rowsOf s) part) ∷ (8 when paddingSet (s .w) (storedRows s (length support)) support) ∷ []
 
--- the job's length
-unfoldable pub writeRoom : Job → ℕ → List Case
-writeRoom j room = (15 when ltb 4294967295 (fileLength j)) ∷ (16 when ltb room (fileLength j)) ∷ []
+-- the job's length, and the room for it
+unfoldable pub writeRoom : ℕ → ℕ → List Case
+writeRoom k room = (15 when ltb 4294967295 k) ∷ (16 when ltb room k) ∷ []
 
 abbrev pub lengthRefusal : Job → ℕ
 lengthRefusal j = refusal (writeLengths (j .settings) (length (j .part)) (length (j .support)) (length (j .rings)))
@@ -281,13 +285,13 @@ lengthRefusal j = refusal (writeLengths (j .settings) (length (j .part)) (length
 pub write-parts : (j : Job) (room : ℕ) →
     writeRefusal j room
     ≡ orElse (refusal (settingCases (j .settings)))
-    (orElse (lengthRefusal j) (orElse (refusal (writePadding (j .settings) (j .part) (j .support))) (refusal (writeRoom j room))))
+    (orElse (lengthRefusal j) (orElse (refusal (writePadding (j .settings) (j .part) (j .support))) (refusal (writeRoom (fileLength j) room))))
 unfolding writeRefusal writeCases writeLengths writePadding writeRoom numbered
 write-parts j room =
     let s : Settings = j .settings in
     let a : List Case = writeLengths s (length (j .part)) (length (j .support)) (length (j .rings)) in
     let b : List Case = writePadding s (j .part) (j .support) in
-    let c : List Case = writeRoom j room in
+    let c : List Case = writeRoom (fileLength j) room in
     refusal-append (settingCases s) (a ++ (b ++ c)) (settings-numbered s)
     ∙ ap (orElse (refusal (settingCases s))) (refusal-append a (b ++ c) refl ∙ ap (orElse (refusal a)) (refusal-append b c refl))
 
@@ -332,7 +336,7 @@ unfolding writeRoom
 writable-out j room e =
     let s : Settings = j .settings in
     let d : ℕ = refusal (writePadding s (j .part) (j .support)) in
-    let r : ℕ = refusal (writeRoom j room) in
+    let r : ℕ = refusal (writeRoom (fileLength j) room) in
     let p = else-both (refusal (settingCases s)) (orElse (lengthRefusal j) (orElse d r)) (sym (write-parts j room) ∙ e) in
     let q = else-both (lengthRefusal j) (orElse d r) (p .1) in
     let t = else-both d r (q .1) in

@@ -1,6 +1,8 @@
-use mathlib.Core.Path.{sym, _∙_}
-use Rattle.rules.specs.Jobs.{fileLength}
-use Rattle.laws.specs.JobFiles.{write-parts, lengths-out, writable-in, write-fits, write-short}
+use mathlib.Core.Path.{sym, ap, _∙_}
+use Prim.Native.Nat.{ℕ}
+use Rattle.rules.specs.Tools.{refusal}
+use Rattle.rules.specs.Jobs.{jobEnd, fileLength}
+use Rattle.laws.specs.JobFiles.{writeRoom, write-parts, lengths-out}
 use Rattle.job.specs.Steps.{stops, goes-on}
 use borrow.Author.Needs.{needs}
 use Rattle.job.proofs.writing.write_refusal.Statement.{statement}
@@ -32,17 +34,14 @@ stored-rows-requires c κs = search needs
 job-end-requires : tie.Need-job-end-requires
 job-end-requires c κs = search needs
 
+room-refusal-requires : tie.Need-room-refusal-requires
+room-refusal-requires c κs = search needs
+
 returns-4 : tie.Need-returns-4
 unfolding fileLength
 returns-4 c =
-    let v = writable-in _ (sym (c .before .before .before .before .before .before .before .before .settings-refusal .ensures) ∙ c .before .before .before .before .before .before .before .if1 .left) (sym (c .before .before .before .before .before .before .length-refusal .ensures) ∙ c .before .before .before .before .before .if2 .left) (sym (c .before .before .before .before .padding-refusal .ensures) ∙ c .before .before .before .if3 .left) in
-    sym (write-short _ _ v (rw (c .before .job-end .ensures .0, c .before .before .stored-rows .ensures .0) at (c .if4 .taken)))
-
-returns-5 : tie.Need-returns-5
-unfolding fileLength
-returns-5 c =
-    let v = writable-in _ (sym (c .before .before .before .before .before .before .before .before .settings-refusal .ensures) ∙ c .before .before .before .before .before .before .before .if1 .left) (sym (c .before .before .before .before .before .before .length-refusal .ensures) ∙ c .before .before .before .before .before .if2 .left) (sym (c .before .before .before .before .padding-refusal .ensures) ∙ c .before .before .before .if3 .left) in
-    sym (write-fits _ _ v (rw (c .before .job-end .ensures .0, c .before .before .stored-rows .ensures .0) at (c .if4 .left)))
+    goes-on (c .before .before .before .before .before .before .before .before .settings-refusal .ensures) (c .before .before .before .before .before .before .before .if1 .left) (goes-on (c .before .before .before .before .before .before .length-refusal .ensures) (c .before .before .before .before .before .if2 .left) (goes-on (c .before .before .before .before .padding-refusal .ensures) (c .before .before .before .if3 .left)
+    (c .room-refusal .ensures ∙ ap (λ (k : ℕ). refusal (writeRoom k (c .before .before .before .before .before .before .before .before .before .before .before .before .args .room))) (c .before .job-end .ensures .0 ∙ ap (jobEnd (c .before .before .before .before .before .before .before .before .before .before .before .before .args .s)) (c .before .before .stored-rows .ensures .0))))) ∙ sym (write-parts _ _)
 
 pub write-refusal-spec : {M : Type 1} → statement M
 write-refusal-spec =
@@ -56,5 +55,5 @@ write-refusal-spec =
     returns-3
     stored-rows-requires
     job-end-requires
-    returns-4
-    returns-5)
+    room-refusal-requires
+    returns-4)
