@@ -692,16 +692,19 @@ fn verdict(s: Settings, part: &[u8], support: &[u8], rings: &[u16]) -> Judged
     let w = s.w;
     let h = s.h;
     let n = s.n;
+    let area = h * w;
+    let pixels = n * area;
+    let pairs = (n - 1) * area;
     let o = overlap_at(part, support, w, h, n);
-    if o < n * (h * w) {
+    if o < pixels {
         return Judged::RefusedAt(9, place_of(o, w, h, 0));
     }
     let b = bad_ring(s, part, rings);
-    if b < (n - 1) * (h * w) {
+    if b < pairs {
         return Judged::RefusedAt(10, place_of(b, w, h, 1));
     }
     let u = unheld_at(part, support, rings, w, h, n);
-    if u < (n - 1) * (h * w) {
+    if u < pairs {
         return Judged::RefusedAt(11, place_of(u, w, h, 1));
     }
     Judged::Accepted

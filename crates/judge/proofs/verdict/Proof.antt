@@ -12,14 +12,20 @@ use Rattle.judge.proofs.overlap_at.Reads as overlap-at-reads
 use Rattle.judge.proofs.place_of.Reads as place-of-reads
 use Rattle.judge.proofs.unheld_at.Reads as unheld-at-reads
 
+mul-area : tie.Need-mul-area
+mul-area c = omega (arith, area-most (c .before .before .before .args .s .w) (c .before .before .before .args .s .h) (c .before .before .before .pre .0 .w-high) (c .before .before .before .pre .0 .h-high))
+
+mul-pixels : tie.Need-mul-pixels
+mul-pixels c = omega (arith, pixels-most (c .before .before .before .args .s) (c .before .before .before .pre .0))
+
+sub-pairs : tie.Need-sub-pairs
+sub-pairs c = search needs
+
+mul-pairs : tie.Need-mul-pairs
+mul-pairs c = omega (arith, rings-most (c .before .before .before .args .s) (c .before .before .before .pre .0), rings-is (c .before .before .before .args .s))
+
 overlap-at-requires : tie.Need-overlap-at-requires
 overlap-at-requires c κs = ((plane-sized (c .before .before .before .args .s) (c .before .before .before .pre .0), c .before .before .before .pre .0 .n-high), (stack-length (c .before .before .before .args .s) _ (c .before .before .before .pre .1 .0), stack-length (c .before .before .before .args .s) _ (c .before .before .before .pre .1 .1 .0)))
-
-mul-if1 : tie.Need-mul-if1
-mul-if1 c = omega (arith, area-most (c .before .before .before .before .args .s .w) (c .before .before .before .before .args .s .h) (c .before .before .before .before .pre .0 .w-high) (c .before .before .before .before .pre .0 .h-high))
-
-mul-if1-2 : tie.Need-mul-if1-2
-mul-if1-2 c = omega (arith, pixels-most (c .before .before .before .before .args .s) (c .before .before .before .before .pre .0))
 
 place-of-requires : tie.Need-place-of-requires
 place-of-requires c κs = (plane-sized (c .before .before .before .before .before .args .s) (c .before .before .before .before .before .pre .0), (omega (arith, pixels-most (c .before .before .before .before .before .args .s) (c .before .before .before .before .before .pre .0), c .if1 .taken), omega arith))
@@ -30,15 +36,6 @@ returns c = told-9 (c .before .before .before .before .before .before .args .s .
 bad-ring-requires : tie.Need-bad-ring-requires
 bad-ring-requires c κs = search needs
 
-sub-if2 : tie.Need-sub-if2
-sub-if2 c = search needs
-
-mul-if2 : tie.Need-mul-if2
-mul-if2 c = omega (arith, area-most (c .before .before .before .before .before .before .args .s .w) (c .before .before .before .before .before .before .args .s .h) (c .before .before .before .before .before .before .pre .0 .w-high) (c .before .before .before .before .before .before .pre .0 .h-high))
-
-mul-if2-2 : tie.Need-mul-if2-2
-mul-if2-2 c = omega (arith, rings-most (c .before .before .before .before .before .before .args .s) (c .before .before .before .before .before .before .pre .0), rings-is (c .before .before .before .before .before .before .args .s))
-
 place-of-requires-2 : tie.Need-place-of-requires-2
 place-of-requires-2 c κs = (plane-sized (c .before .before .before .before .before .before .before .args .s) (c .before .before .before .before .before .before .before .pre .0), (omega (arith, rings-most (c .before .before .before .before .before .before .before .args .s) (c .before .before .before .before .before .before .before .pre .0), rings-is (c .before .before .before .before .before .before .before .args .s), c .if2 .taken), omega arith))
 
@@ -47,15 +44,6 @@ returns-2 c = told-10 (c .before .before .before .before .before .before .before
 
 unheld-at-requires : tie.Need-unheld-at-requires
 unheld-at-requires c κs = ((plane-sized (c .before .before .before .before .before .before .before .args .s) (c .before .before .before .before .before .before .before .pre .0), (c .before .before .before .before .before .before .before .pre .0 .n-low, c .before .before .before .before .before .before .before .pre .0 .n-high)), (stack-length (c .before .before .before .before .before .before .before .args .s) _ (c .before .before .before .before .before .before .before .pre .1 .0), (stack-length (c .before .before .before .before .before .before .before .args .s) _ (c .before .before .before .before .before .before .before .pre .1 .1 .0), ring-count (c .before .before .before .before .before .before .before .args .s) _ (c .before .before .before .before .before .before .before .pre .1 .1 .1))))
-
-sub-if3 : tie.Need-sub-if3
-sub-if3 c = search needs
-
-mul-if3 : tie.Need-mul-if3
-mul-if3 c = omega (arith, area-most (c .before .before .before .before .before .before .before .before .args .s .w) (c .before .before .before .before .before .before .before .before .args .s .h) (c .before .before .before .before .before .before .before .before .pre .0 .w-high) (c .before .before .before .before .before .before .before .before .pre .0 .h-high))
-
-mul-if3-2 : tie.Need-mul-if3-2
-mul-if3-2 c = omega (arith, rings-most (c .before .before .before .before .before .before .before .before .args .s) (c .before .before .before .before .before .before .before .before .pre .0), rings-is (c .before .before .before .before .before .before .before .before .args .s))
 
 place-of-requires-3 : tie.Need-place-of-requires-3
 place-of-requires-3 c κs = (plane-sized (c .before .before .before .before .before .before .before .before .before .args .s) (c .before .before .before .before .before .before .before .before .before .pre .0), (omega (arith, rings-most (c .before .before .before .before .before .before .before .before .before .args .s) (c .before .before .before .before .before .before .before .before .before .pre .0), rings-is (c .before .before .before .before .before .before .before .before .before .args .s), c .if3 .taken), omega arith))
@@ -70,21 +58,17 @@ pub verdict-spec : {M : Type 1} → statement M
 verdict-spec =
     tie.close
     (tie.spec
+    mul-area
+    mul-pixels
+    sub-pairs
+    mul-pairs
     overlap-at-requires
-    mul-if1
-    mul-if1-2
     place-of-requires
     returns
     bad-ring-requires
-    sub-if2
-    mul-if2
-    mul-if2-2
     place-of-requires-2
     returns-2
     unheld-at-requires
-    sub-if3
-    mul-if3
-    mul-if3-2
     place-of-requires-3
     returns-3
     returns-4)
