@@ -25,9 +25,9 @@ enum status job_read(struct job *job, const char *name)
     status = answered(job, kg_read(job->file.data, job->file.length, told, KG_TOLD));
     if (status != DONE)
         return status;
-    job->w = told[KG_W];
-    job->h = told[KG_H];
-    job->n = told[KG_N];
+    job->w = told[KG_WIDTH];
+    job->h = told[KG_HEIGHT];
+    job->n = told[KG_LAYERS];
     job->pitch = (uint32_t)told[KG_PITCH];
     job->overhang = (uint32_t)told[KG_OVERHANG];
     job->stored = told[KG_STORED] != 0;

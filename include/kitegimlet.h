@@ -23,6 +23,7 @@ extern "C" {
  * a refusal carries its place where it has one (9, 10, 11) and else nothing. */
 typedef uint64_t kg_answer;
 
+/* kg_value means something where the number is 0, the three of the place where it is 9, 10 or 11. */
 static inline unsigned kg_number(kg_answer a) { return (unsigned)(a & 0xFFFFu); }
 static inline unsigned kg_layer(kg_answer a) { return (unsigned)(a >> 16 & 0xFFFFu); }
 static inline unsigned kg_row(kg_answer a) { return (unsigned)(a >> 32 & 0xFFFFu); }
@@ -49,7 +50,7 @@ kg_answer kg_check(uint64_t w, uint64_t h, uint64_t n, uint32_t pitch, uint32_t 
 /* What reading a job file tells, in this order: w, h, n, pitch, overhang, whether support is stored (0 or 1), and the offsets of the first
  * byte after the count of sections 1 to 4 (settings, part, support, rings). */
 enum kg_told {
-    KG_W, KG_H, KG_N, KG_PITCH, KG_OVERHANG, KG_STORED, KG_SETTINGS_AT, KG_PART_AT, KG_SUPPORT_AT, KG_RINGS_AT, KG_TOLD
+    KG_WIDTH, KG_HEIGHT, KG_LAYERS, KG_PITCH, KG_OVERHANG, KG_STORED, KG_SETTINGS_AT, KG_PART_AT, KG_SUPPORT_AT, KG_RINGS_AT, KG_TOLD
 };
 
 /* Reads a job file. Where it is not refused, `told` gets the values of enum kg_told, as many as it has room for; further elements stay.
@@ -69,8 +70,8 @@ kg_stretch kg_support(const uint8_t *file, uint64_t file_len);
  * then 6. */
 kg_answer kg_copy_rings(const uint8_t *file, uint64_t file_len, uint16_t *rings, uint64_t rings_len);
 
-/* Writes a job at the start of `out` and answers its length: kg_value. Without support its length and that of the rings are 0. Bytes of
- * `out` past the job stay. Refusals 1 to 8, 15, 16. */
+/* Writes a job at the start of `out` and answers its length: kg_value. Without support its length and that of the rings are 0. A job has
+ * 26 + part_len + support_len + 2 * rings_len bytes; bytes of `out` past it stay. Refusals 1 to 8, 15, 16. */
 kg_answer kg_write(uint64_t w, uint64_t h, uint64_t n, uint32_t pitch, uint32_t overhang,
                    const uint8_t *part, uint64_t part_len,
                    const uint8_t *support, uint64_t support_len,
