@@ -32,7 +32,7 @@ fn less(a: usize, b: usize) -> usize
 
 // ---- bits of a byte
 
-fn bit(m: u8, k: usize) -> bool
+pub fn bit(m: u8, k: usize) -> bool
     requires { ⌜ k < 8 ⌝ }
     ensures { λ b. ⌜ b ≡ bitAt m k ⌝ }
 {

@@ -1,4 +1,6 @@
 // The text of the report: words and numbers in decimal, each written at a place of a lent buffer; and its lines.
+mod counts; // counts.rt: pixels counted
+
 ghost use mathlib.Core.Path.{_≡_};
 ghost use mathlib.Core.List.{[], _∷_, _++_};
 ghost use Prim.Native.Nat.{_+_, _-_, _*_, _<_, _≤_};
