@@ -6,8 +6,12 @@ ghost use mathlib.Core.List.{[], _∷_, _++_};
 ghost use Prim.Native.Nat.{_+_, _-_, _*_, _<_, _≤_};
 ghost use lib.ListN.{length};
 ghost use Rattle.rules.specs.Jobs.{over};
-ghost use Rattle.rules.specs.Report.{decimal, spaced, refusedLine, jobLine};
-ghost use Rattle.lines.specs.Lines.{lineOf};
+ghost use Rattle.rules.specs.Report.{decimal, spaced, refusedLine, jobLine, excusedAbove};
+ghost use Rattle.rules.specs.Images.{ringAt};
+ghost use Rattle.lines.specs.Lines.{lineOf, Wrote};
+ghost use Rattle.lines.specs.Whole.{Whole, Counted, Lined, linesTo};
+use counts::excused;
+use counts::filled;
 use limits::reach_of;
 use rules::Settings;
 
@@ -107,4 +111,64 @@ fn layer_line(
     let third = put_spaced(out, second, support);
     let fourth = put_spaced(out, third, excused);
     put_byte(out, fourth, 10)
+}
+
+fn excused_above(rings: &[u16], s: Settings, i: usize) -> usize
+    requires { ⌜ (i < s .n) × (i + 1 < s .n → (s .w ≤ 256) × ((s .h ≤ 256) × ((i < 512) × ((i + 1) * (s .h * s .w) ≤ length (now rings))))) ⌝ }
+    ensures { λ r. ⌜ (r ≡ excusedAbove s (ringAt (s .w) (s .h) (now (rings .entry))) i) × (r ≤ 65536) ⌝ }
+{
+    if i + 1 < s.n {
+        return excused(rings, s.w, s.h, i);
+    }
+    0
+}
+
+// The line of layer i, its pixels counted.
+fn counted_line(
+    out: &mut [u8],
+    at: usize,
+    s: Settings,
+    part: &[u8],
+    support: &[u8],
+    rings: &[u16],
+    i: usize,
+) -> usize
+    requires { ⌜ Whole s (now part) (now support) (now rings) × ((i < s .n) × (at + 24 ≤ length (now out))) ⌝ }
+    ensures { λ r. ⌜ Counted s (now (part .entry)) (now (support .entry)) (now (rings .entry)) i at r (now (out .exit)) (now (out .entry)) ⌝ }
+{
+    let a = filled(part, s.w, s.h, i);
+    let b = filled(support, s.w, s.h, i);
+    let c = excused_above(rings, s, i);
+    layer_line(out, at, i, a, b, c)
+}
+
+// The lines of all layers, from the top down.
+fn layer_lines(
+    out: &mut [u8],
+    start: usize,
+    s: Settings,
+    part: &[u8],
+    support: &[u8],
+    rings: &[u16],
+) -> usize
+    requires { ⌜ Whole s (now part) (now support) (now rings) × (start + 24 * s .n ≤ length (now out)) ⌝ }
+    ensures { λ r. ⌜ Lined s (now (part .entry)) (now (support .entry)) (now (rings .entry)) (now (out .entry)) (now (out .exit)) start r ⌝ }
+{
+    let n = s.n;
+    let mut at = start;
+    let mut k = 0;
+    while k < n {
+        at = counted_line(out, at, s, part, support, rings, n - 1 - k);
+        k += 1;
+    }
+    at
+}
+
+// The text of a job with its support and rings.
+pub fn job_lines(out: &mut [u8], s: Settings, part: &[u8], support: &[u8], rings: &[u16]) -> usize
+    requires { ⌜ Whole s (now part) (now support) (now rings) × (length (now out) ≡ 16384) ⌝ }
+    ensures { λ r. ⌜ Wrote (now (out .entry)) 0 (now (out .exit)) r (linesTo s (now (part .entry)) (now (support .entry)) (now (rings .entry)) (s .n)) ⌝ }
+{
+    let at = job_line(out, s);
+    layer_lines(out, at, s, part, support, rings)
 }

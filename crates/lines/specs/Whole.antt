@@ -1,0 +1,173 @@
+-- The whole text of a planned job: its first line and a line for each layer, from the top down, as the loop writes them.
+use mathlib.Core.Path.{_≡_, refl, sym, ap, subst, _∙_}
+use mathlib.Core.Bool.{Bool, true, false, cond}
+use mathlib.Core.List.{List, [], _∷_, _++_, append-assoc, append-nil}
+use Prim.Native.Nat.{ℕ, zero, suc, _+_, _-_, _*_, _≤_, _<_}
+use native.Mathlib.Nat.{mul-le-mul, add-suc}
+use native.Mathlib.Numerals.{add-one}
+use native.Mathlib.Omega.{arith}
+use lib.Dec.{ltb}
+use lib.ListN.{length, length-append}
+use borrow.Author.Tests.{lt-ltb, le-ltb}
+use Rattle.rules.specs.Tools.{count, joinedUp, refusal}
+use Rattle.rules.specs.Images.{Stack, Rings, pixel, rowBytes, rowsOf, stackBytes, ringsIn, ringAt}
+use Rattle.rules.specs.Reach.{reachOf, boundOf}
+use Rattle.rules.specs.Planning.{excused, plannedRings, plannedBytes}
+use Rattle.rules.specs.Jobs.{over}
+use Rattle.rules.specs.Calls.{settingCases}
+use Rattle.rules.specs.Report.{decimal, spaced, newline, jobLine, filled, excusedAbove, layerLine, planLines}
+use Rattle.rules.specs.declared.Settings.{Settings}
+use Rattle.laws.specs.Limits.{Ranged, ranged}
+use Rattle.lines.specs.Lines.{lineOf, line-length, spaced-length, jobWord, reachWord, job-pieces, Wrote, wrote-more, wrote-long}
+use Rattle.laws.specs.Runs.{over-none}
+use Rattle.lines.specs.Counts.{Layer}
+
+-- the text for a part, a support and rings
+unfoldable pub layerOf : Settings → List ℕ → List ℕ → List ℕ → ℕ → List ℕ
+layerOf s part sup ring k = layerLine s (pixel (s .w) (s .h) part) (pixel (s .w) (s .h) sup) (ringAt (s .w) (s .h) ring) (s .n - 1 - k)
+
+unfoldable pub linesTo : Settings → List ℕ → List ℕ → List ℕ → ℕ → List ℕ
+linesTo s part sup ring k = jobLine s ++ joinedUp 0 k (layerOf s part sup ring)
+
+-- of the planned support and rings it is the report's
+pub planned-lines : (s : Settings) (part : List ℕ) → linesTo s part (plannedBytes (s .w) (s .h) (s .n) (boundOf s) part) (plannedRings (s .w) (s .h) (s .n) (boundOf s) part) (s .n) ≡ planLines s part
+unfolding linesTo layerOf planLines
+planned-lines s part = refl
+
+-- what the lines need of a job
+pub record Whole (s : Settings) (part sup ring : List ℕ) : Type 0 where
+  pub settings : refusal (settingCases s) ≡ 0
+  pub part-long : length part ≡ stackBytes s
+  pub sup-long : length sup ≡ stackBytes s
+  pub ring-long : length ring ≡ ringsIn s
+
+module _ {s : Settings} {part sup ring : List ℕ} (x : Whole s part sup ring) where
+  pub in-range : Ranged s
+  in-range = ranged s (x .settings)
+
+  layer-in : (l : List ℕ) (i : ℕ) → length l ≡ stackBytes s → i < s .n → Layer (s .w) (s .h) i l
+  unfolding stackBytes rowsOf
+  layer-in l i e li =
+      let r = in-range in
+      let hn = r .n-high in
+      let a : (i + 1) * s .h ≤ s .n * s .h = mul-le-mul (omega arith) (omega arith) in
+      let b : (i + 1) * s .h * rowBytes (s .w) ≤ s .n * s .h * rowBytes (s .w) = mul-le-mul a (omega arith) in
+      record { w-low = r .w-low; w-high = r .w-high; h-high = r .h-high; i-high = omega arith; holds = omega arith }
+
+  pub part-layer : (i : ℕ) → i < s .n → Layer (s .w) (s .h) i part
+  part-layer i li = layer-in part i (x .part-long) li
+
+  pub support-layer : (i : ℕ) → i < s .n → Layer (s .w) (s .h) i sup
+  support-layer i li = layer-in sup i (x .sup-long) li
+
+  -- the rings of the pair above layer i
+  pub pair-rings : (i : ℕ) → i + 1 < s .n → (s .w ≤ 256) × ((s .h ≤ 256) × ((i < 512) × ((i + 1) * (s .h * s .w) ≤ length ring)))
+  unfolding ringsIn
+  pair-rings i li =
+      let r = in-range in
+      let hn = r .n-high in
+      let a : (i + 1) * (s .h * s .w) ≤ (s .n - 1) * (s .h * s .w) = mul-le-mul (omega arith) (omega arith) in
+      (r .w-high, (r .h-high, (omega arith, omega (arith, x .ring-long))))
+
+-- the excused pixels above a layer, by cases
+pub excused-some : (s : Settings) (ring : Rings) (i n : ℕ) → i + 1 < s .n → n ≡ count (s .h * s .w) (excused ring i) → n ≡ excusedAbove s ring i
+unfolding excusedAbove
+excused-some s ring i n h e = let z : suc i < s .n = omega arith in rw (lt-ltb (suc i) (s .n) z) e
+
+pub excused-none : (s : Settings) (ring : Rings) (i : ℕ) → s .n ≤ i + 1 → 0 ≡ excusedAbove s ring i
+unfolding excusedAbove
+excused-none s ring i h = let z : s .n ≤ suc i = omega arith in rw (le-ltb (suc i) (s .n) z)
+
+-- a layer's line from its numbers
+pub layer-is : (s : Settings) (part sup ring : List ℕ) (i a b c : ℕ) →
+    a ≡ count (s .h * s .w) (pixel (s .w) (s .h) part i) → b ≡ count (s .h * s .w) (pixel (s .w) (s .h) sup i) → c ≡ excusedAbove s (ringAt (s .w) (s .h) ring) i →
+    lineOf i a b c ≡ layerLine s (pixel (s .w) (s .h) part) (pixel (s .w) (s .h) sup) (ringAt (s .w) (s .h) ring) i
+unfolding lineOf layerLine filled
+layer-is s part sup ring i a b c ea eb ec = rw (ea, eb, ec)
+
+-- the first line is short
+pub job-short : (s : Settings) → Ranged s → length (jobLine s) ≤ 40
+job-short s r =
+    let hw = r .w-high in
+    let hh = r .h-high in
+    let hn = r .n-high in
+    let hr = r .reach-high in
+    rw (job-pieces s)
+    (simp length-append (omega (arith, spaced-length (s .w) (omega arith), spaced-length (s .h) (omega arith), spaced-length (s .n) (omega arith), spaced-length (reachOf (s .pitch) (s .overhang) .0) (omega arith))))
+
+-- one line more
+joined-more : (k : ℕ) (a : ℕ) (f : ℕ → List ℕ) → joinedUp a (suc k) f ≡ joinedUp a k f ++ f (a + k)
+unfolding joinedUp
+joined-more zero a f = let z : a + 0 ≡ a = omega arith in rw z (append-nil (f a))
+joined-more (suc k) a f =
+    let z : suc a + k ≡ a + suc k = omega arith in
+    ap (λ (l : List ℕ). f a ++ l) (joined-more k (suc a) f) ∙ rw z (sym (append-assoc (f a) (joinedUp (suc a) k f) (f (a + suc k))))
+
+joined-next : (k : ℕ) (f : ℕ → List ℕ) → joinedUp 0 (k + 1) f ≡ joinedUp 0 k f ++ f k
+joined-next k f = let z : 0 + k ≡ k = omega arith in rw add-one (joined-more k 0 f ∙ rw z)
+
+-- a layer's line was written from `at` on, and it is short
+pub record Counted (s : Settings) (part sup ring : List ℕ) (i at r : ℕ) (now was : List ℕ) : Type 0 where
+  pub ends : r ≡ at + length (layerLine s (pixel (s .w) (s .h) part) (pixel (s .w) (s .h) sup) (ringAt (s .w) (s .h) ring) i)
+  pub holds : now ≡ over was at (layerLine s (pixel (s .w) (s .h) part) (pixel (s .w) (s .h) sup) (ringAt (s .w) (s .h) ring) i)
+  pub short : length (layerLine s (pixel (s .w) (s .h) part) (pixel (s .w) (s .h) sup) (ringAt (s .w) (s .h) ring) i) ≤ 24
+
+pub counted-from : (s : Settings) (part sup ring : List ℕ) (i at a b c r : ℕ) (now was : List ℕ) → i < 512 → a ≤ 65536 → b ≤ 65536 → c ≤ 65536 →
+    a ≡ count (s .h * s .w) (pixel (s .w) (s .h) part i) → b ≡ count (s .h * s .w) (pixel (s .w) (s .h) sup i) → c ≡ excusedAbove s (ringAt (s .w) (s .h) ring) i →
+    (r ≡ at + length (lineOf i a b c)) × (now ≡ over was at (lineOf i a b c)) → Counted s part sup ring i at r now was
+counted-from s part sup ring i at a b c r now was hi ha hb hc ea eb ec (e, is) =
+    let z = layer-is s part sup ring i a b c ea eb ec in
+    record {
+      ends = e ∙ ap (λ (l : List ℕ). at + length l) z;
+      holds = is ∙ ap (over was at) z;
+      short = subst (λ (l : List ℕ). length l ≤ 24) z (line-length i a b c (omega arith) (omega arith) (omega arith) (omega arith));
+    }
+
+-- all layers' lines were written from `start` on
+pub record Lined (s : Settings) (part sup ring was now : List ℕ) (start at : ℕ) : Type 0 where
+  pub wrote : Wrote was start now at (joinedUp 0 (s .n) (layerOf s part sup ring))
+
+-- the loop: from `start` on k lines are written, each of at most 24 bytes
+pub record Going (s : Settings) (part sup ring was now : List ℕ) (start at k : ℕ) : Type 0 where
+  pub wrote : Wrote was start now at (joinedUp 0 k (layerOf s part sup ring))
+  pub short : at ≤ start + 24 * k
+
+pub going-start : (s : Settings) (part sup ring was : List ℕ) (start : ℕ) → start ≤ length was → Going s part sup ring was was start start 0
+unfolding joinedUp
+going-start s part sup ring was start h = record {
+  wrote = record { ends = omega arith; holds = over-none was start; fits = omega arith };
+  short = omega arith;
+}
+
+pub going-room : (s : Settings) (part sup ring was now : List ℕ) (start at k : ℕ) → k < s .n → start + 24 * s .n ≤ length was → Going s part sup ring was now start at k → at + 24 ≤ length now
+going-room s part sup ring was now start at k lk h g = omega (arith, wrote-long (g .wrote), g .short)
+
+pub going-on : (s : Settings) (part sup ring was now new : List ℕ) (start at r k : ℕ) → start + 24 * s .n ≤ length was → k < s .n → Going s part sup ring was now start at k →
+    Counted s part sup ring (s .n - 1 - k) at r new now → Going s part sup ring was new start r (k + 1)
+unfolding layerOf
+going-on s part sup ring was now new start at r k h lk g c =
+    let z : joinedUp 0 (k + 1) (layerOf s part sup ring) ≡ joinedUp 0 k (layerOf s part sup ring) ++ layerOf s part sup ring k = joined-next k (layerOf s part sup ring) in
+    let e = g .wrote .ends in
+    let l = length-append (joinedUp 0 k (layerOf s part sup ring)) (layerOf s part sup ring k) in
+    let sh = c .short in
+    let f : start + length (joinedUp 0 k (layerOf s part sup ring) ++ layerOf s part sup ring k) ≤ length was = omega (arith, g .short) in
+    let w = wrote-more (g .wrote) new r (layerOf s part sup ring k) f (c .ends, c .holds) in
+    record { wrote = subst (Wrote was start new r) (sym z) w; short = omega (arith, g .short, c .ends) }
+
+pub going-end : (s : Settings) (part sup ring was now : List ℕ) (start at k : ℕ) → k ≤ s .n → s .n ≤ k → Going s part sup ring was now start at k → Lined s part sup ring was now start at
+going-end s part sup ring was now start at k a b g =
+    let e : k ≡ s .n = omega arith in
+    record { wrote = subst (λ (j : ℕ). Wrote was start now at (joinedUp 0 j (layerOf s part sup ring))) e (g .wrote) }
+
+-- the first line, and then the layers'
+pub job-room : (s : Settings) → Ranged s → (at : ℕ) (was : List ℕ) → at ≡ length (jobLine s) → length was ≡ 16384 → at + 24 * s .n ≤ length was
+job-room s r at was e n = let hn = r .n-high in omega (arith, job-short s r)
+
+pub job-whole : (s : Settings) (part sup ring was l now : List ℕ) (at r : ℕ) → Ranged s → length was ≡ 16384 → (at ≡ length (jobLine s)) × (l ≡ over was 0 (jobLine s)) →
+    Lined s part sup ring l now at r → Wrote was 0 now r (linesTo s part sup ring (s .n))
+unfolding linesTo
+job-whole s part sup ring was l now at r g n (e, is) w =
+    let first : Wrote was 0 l at (jobLine s) = record { ends = omega arith; holds = is; fits = omega (arith, job-short s g) } in
+    let v = w .wrote in
+    wrote-more first now r (joinedUp 0 (s .n) (layerOf s part sup ring))
+    (omega (arith, length-append (jobLine s) (joinedUp 0 (s .n) (layerOf s part sup ring)), v .fits, wrote-long first)) (v .ends, v .holds)
