@@ -55,3 +55,10 @@ module _ (w : ℕ) (s : List ℕ) (row at rb mask : ℕ) (er : rb ≡ rowBytes w
 pub pad-none : (w k : ℕ) (s : List ℕ) (row : ℕ) → k ≤ row → ((x : ℕ) → x < row → padOf w s x ≡ 0) → false ≡ paddingSet w k s
 unfolding paddingSet
 pad-none w k s row l all = sym (some-none k (λ x. not (eqb (padOf w s x) 0)) (λ x b. rw (eq-eqb _ 0 (all x (omega arith)))))
+
+-- rows of whole bytes have no padding
+pub pad-whole : (w k : ℕ) (s : List ℕ) (rb pad : ℕ) → rb ≡ rowBytes w → pad ≡ rb * 8 - w → pad ≡ 0 → false ≡ paddingSet w k s
+unfolding paddingSet
+pad-whole w k s rb pad er ep z =
+    let p : 8 * rowBytes w - w ≡ 0 = omega arith in
+    sym (some-none k (λ x. not (eqb (padOf w s x) 0)) (λ x b. rw (p, eq-eqb (getD s (x * rowBytes w + (rowBytes w - 1)) 0 % 1) 0 (omega arith))))

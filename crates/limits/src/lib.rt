@@ -108,7 +108,11 @@ pub fn padding_set(s: &[u8], w: usize, k: usize) -> bool
     ensures { λ r. ⌜ r ≡ paddingSet w k (now (s .entry)) ⌝ }
 {
     let rb = row_bytes(w);
-    let mask = pad_mask(rb * 8 - w);
+    let pad = rb * 8 - w;
+    if pad == 0 {
+        return false;
+    }
+    let mask = pad_mask(pad);
     let last = rb - 1;
     let mut row = 0;
     while row < k {
