@@ -3,6 +3,7 @@ pub mod Bench
 pub mod Examples
 pub mod Refusals
 pub mod Demand1
+pub mod Outcomes
 pub mod Demand2
 pub mod Chapter
 pub mod RingsFit
