@@ -1,19 +1,19 @@
 -- Laws of the eight neighbours, and of what lends a ring.
 use mathlib.Core.Path.{_≡_, refl, sym, _∙_}
-use mathlib.Core.Bool.{Bool, true, false, not, _&&_}
+use mathlib.Core.Bool.{Bool, true, false, not, _&&_, _||_}
 use mathlib.Core.List.{List}
 use Prim.Native.Nat.{ℕ, _+_, _-_, _*_, _/_, _%_, _<_, _≤_, min}
 use native.Mathlib.Nat.{div-add-mod'}
 use native.Mathlib.Omega.{arith}
-use lib.Dec.{ltb}
+use lib.Dec.{leb, ltb}
 use lib.ListN.{getD}
-use borrow.Author.Tests.{ltb-true, ltb-false, eq-eqb, ne-eqb, lt-ltb, le-ltb}
+use borrow.Author.Tests.{ltb-true, ltb-false, eq-eqb, ne-eqb, lt-ltb, le-ltb, le-leb, lt-leb}
 use Rattle.rules.specs.Images.{Plane, rowBytes}
 use Rattle.rules.specs.Planning.{shadow, near, seeds, reached, source, touch, touching, fits}
 use Rattle.laws.specs.Tests.{split, clash, and-in, some-in}
 use Rattle.laws.specs.Places.{digits-in}
 use Rattle.laws.specs.Neighbours.{Touching, touch-out, touch-in}
-use Rattle.judge.specs.Search.{bitIn, planeOf, badHere, lender}
+use Rattle.judge.specs.Search.{bitIn, planeOf, badHere, badBeyond, lender}
 use Rattle.judge.proofs.Bits.{and-true}
 use Rattle.judge.proofs.Planes.{row-in, plane-at, in-plane}
 use Rattle.judge.proofs.Nearness.{some-none}
@@ -88,30 +88,40 @@ row-more w h r c f y x all here past n l b d m lm a e =
 abbrev pub leans : ℕ → ℕ → Plane → Plane → (ℕ → ℕ) → Plane
 leans w h low up ring p = touching (h * w) (touch w) (source (seeds low up) ring (ring p - 1)) p
 
-module _ (w h q : ℕ) (low up : Plane) (ring : ℕ → ℕ) (p : ℕ) where
-  bad-is : 0 < ring p → (u l n t : Bool) → up p ≡ u → low p ≡ l → near w h q low p ≡ n → leans w h low up ring p ≡ t → badHere w h q low up ring p ≡ not (u && not l && n && t)
-  unfolding badHere fits reached shadow
-  bad-is b u l n t eu el en et = rw (lt-ltb 0 (ring p) b, eu, el, en, et)
+module _ (w h q t : ℕ) (low up : Plane) (ring : ℕ → ℕ) (p : ℕ) where
+  bad-is : 0 < ring p → (u l e n s : Bool) → up p ≡ u → low p ≡ l → leb (ring p) t ≡ e → near w h q low p ≡ n → leans w h low up ring p ≡ s →
+      badBeyond w h q t low up ring p ≡ not (u && not l && (e || n) && s)
+  unfolding badBeyond shadow
+  bad-is b u l e n s eu el ee en es = rw (lt-ltb 0 (ring p) b, eu, el, ee, en, es)
 
-  pub no-ring : ring p ≡ 0 → badHere w h q low up ring p ≡ false
-  unfolding badHere
+  pub no-ring : ring p ≡ 0 → badBeyond w h q t low up ring p ≡ false
+  unfolding badBeyond
   no-ring e = rw (le-ltb 0 (ring p) (omega arith))
 
-  pub not-above : 0 < ring p → up p ≡ false → true ≡ badHere w h q low up ring p
-  not-above b u = sym (bad-is b false _ _ _ u refl refl refl)
+  pub not-above : 0 < ring p → up p ≡ false → true ≡ badBeyond w h q t low up ring p
+  not-above b u = sym (bad-is b false _ _ _ _ u refl refl refl refl)
 
-  pub in-low : 0 < ring p → up p ≡ true → low p ≡ true → true ≡ badHere w h q low up ring p
-  in-low b u l = sym (bad-is b true true _ _ u l refl refl)
+  pub in-low : 0 < ring p → up p ≡ true → low p ≡ true → true ≡ badBeyond w h q t low up ring p
+  in-low b u l = sym (bad-is b true true _ _ _ u l refl refl refl)
 
   not-and : (n : Bool) → not (n && false) ≡ true
   not-and true = refl
   not-and false = refl
 
-  pub untouched : 0 < ring p → up p ≡ true → low p ≡ false → leans w h low up ring p ≡ false → true ≡ badHere w h q low up ring p
-  untouched b u l t = sym (bad-is b true false _ false u l refl t ∙ not-and (near w h q low p))
+  pub untouched : 0 < ring p → up p ≡ true → low p ≡ false → leans w h low up ring p ≡ false → true ≡ badBeyond w h q t low up ring p
+  untouched b u l s = sym (bad-is b true false _ _ false u l refl refl s ∙ not-and (leb (ring p) t || near w h q low p))
 
-  pub by-near : 0 < ring p → up p ≡ true → low p ≡ false → leans w h low up ring p ≡ true → (n : Bool) → n ≡ near w h q low p → not n ≡ badHere w h q low up ring p
-  by-near b u l t n en = sym (bad-is b true false n true u l (sym en) t ∙ rw (and-true n))
+  -- a ring that is taken for near
+  pub by-trust : 0 < ring p → up p ≡ true → low p ≡ false → leans w h low up ring p ≡ true → ring p ≤ t → false ≡ badBeyond w h q t low up ring p
+  by-trust b u l s e = sym (bad-is b true false true _ true u l (le-leb (ring p) t e) refl s)
+
+  pub by-near : 0 < ring p → up p ≡ true → low p ≡ false → leans w h low up ring p ≡ true → t < ring p → (n : Bool) → n ≡ near w h q low p → not n ≡ badBeyond w h q t low up ring p
+  by-near b u l s e n en = sym (bad-is b true false false n true u l (lt-leb (ring p) t e) (sym en) s ∙ rw (and-true n))
+
+-- where no ring is taken for near it is a bad ring
+pub beyond-none : (w h q : ℕ) (low up : Plane) (ring : ℕ → ℕ) (p : ℕ) → badBeyond w h q 0 low up ring p ≡ badHere w h q low up ring p
+unfolding badBeyond badHere fits reached
+beyond-none w h q low up ring p = split (ltb 0 (ring p)) (λ t. rw (t, lt-leb (ring p) 0 (ltb-true 0 (ring p) t))) (λ t. rw t)
 
 -- a pixel of a plane, as the code reads it
 pub pixel-is : (w : ℕ) (s : List ℕ) (r c rb : ℕ) (b : Bool) → c < w → rb ≡ rowBytes w → b ≡ bitIn s (r * rb) c → planeOf w s (r * w + c) ≡ b
@@ -119,12 +129,14 @@ pixel-is w s r c rb b lc er e = plane-at w s r c lc ∙ rw (← er) (sym e)
 
 -- A row without rings ----------------------------------------------------------------------------------------------------
 
-module _ (w h q : ℕ) (low up : Plane) (rings : List ℕ) where
-  pub quiet-row : (r x : ℕ) → x ≡ r * w → ((j : ℕ) → j < w → getD rings (x + j) 0 ≡ 0) → (y : ℕ) → 0 ≤ y → y < w → badHere w h q low up (λ o. getD rings o 0) (r * w + y) ≡ false
-  quiet-row r x e all y a l = no-ring w h q low up (λ o. getD rings o 0) (r * w + y) (rw (← e) (all y l))
+module _ (w h q t : ℕ) (low up : Plane) (rings : List ℕ) where
+  pub quiet-row : (r x : ℕ) → x ≡ r * w → ((j : ℕ) → j < w → getD rings (x + j) 0 ≡ 0) → (y : ℕ) → 0 ≤ y → y < w → badBeyond w h q t low up (λ o. getD rings o 0) (r * w + y) ≡ false
+  quiet-row r x e all y a l = no-ring w h q t low up (λ o. getD rings o 0) (r * w + y) (rw (← e) (all y l))
 
   pub quiet-plane : ((j : ℕ) → j < h * w → getD rings (0 + j) 0 ≡ 0) → (y : ℕ) → 0 ≤ y → y < h * w → badHere w h q low up (λ o. getD rings o 0) y ≡ false
-  quiet-plane all y a l = let z : 0 + y ≡ y = omega arith in no-ring w h q low up (λ o. getD rings o 0) y (rw z at (all y l))
+  quiet-plane all y a l =
+      let z : 0 + y ≡ y = omega arith in
+      sym (beyond-none w h q low up (λ o. getD rings o 0) y) ∙ no-ring w h q 0 low up (λ o. getD rings o 0) y (rw z at (all y l))
 
 -- what `touches` tells, for the ring that the pixel has
 pub leans-is : (w h : ℕ) (low up rings : List ℕ) (p k : ℕ) → k ≡ getD rings p 0 → (b : Bool) → b ≡ touching (h * w) (touch w) (lender w low up rings k) p →
@@ -132,5 +144,5 @@ pub leans-is : (w h : ℕ) (low up rings : List ℕ) (p k : ℕ) → k ≡ getD 
 unfolding lender
 leans-is w h low up rings p k ek b e = rw (← ek) (sym e)
 
-pub bad-row : (w h q : ℕ) (low up : Plane) (ring : ℕ → ℕ) (r x : ℕ) → x ≡ r * w → (c : ℕ) → c < w → badHere w h q low up ring (x + c) ≡ badHere w h q low up ring (r * w + c)
-bad-row w h q low up ring r x e c l = rw e
+pub bad-row : (w h q t : ℕ) (low up : Plane) (ring : ℕ → ℕ) (r x : ℕ) → x ≡ r * w → (c : ℕ) → c < w → badBeyond w h q t low up ring (x + c) ≡ badBeyond w h q t low up ring (r * w + c)
+bad-row w h q t low up ring r x e c l = rw e

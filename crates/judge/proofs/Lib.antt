@@ -6,3 +6,4 @@ pub mod Rows
 pub mod Nearness
 pub mod Eight
 pub mod Verdicts
+pub mod Trust

@@ -8,7 +8,7 @@ use lib.ListN.{getD}
 use Rattle.rules.specs.Tools.{some, Case, _when_}
 use Rattle.rules.specs.Images.{Plane, Stack, rowBytes, bitAt, rowsOf, paddingSet}
 use Rattle.rules.specs.declared.Settings.{Settings}
-use Rattle.rules.specs.Planning.{seeds, reached, touch, source, fits}
+use Rattle.rules.specs.Planning.{shadow, near, seeds, reached, touch, source, touching, fits}
 
 -- r is the first of a, a + 1, .., n - 1 that passes; n where none does
 pub record Least (a n : ℕ) (f : ℕ → Bool) (r : ℕ) : Type 0 where
@@ -35,6 +35,12 @@ overlapHere part sup p = sup p && part p
 
 unfoldable pub badHere : ℕ → ℕ → ℕ → Plane → Plane → (ℕ → ℕ) → Plane
 badHere w h q low up ring p = ltb 0 (ring p) && not (fits (h * w) (touch w) (reached w h q low up) (seeds low up) ring (ring p - 1) p)
+
+-- the same where rings up to t are taken for near
+unfoldable pub badBeyond : ℕ → ℕ → ℕ → ℕ → Plane → Plane → (ℕ → ℕ) → Plane
+badBeyond w h q t low up ring p =
+    ltb 0 (ring p)
+    && not (shadow low up p && (leb (ring p) t || near w h q low p) && touching (h * w) (touch w) (source (seeds low up) ring (ring p - 1)) p)
 
 unfoldable pub unheldHere : Plane → Plane → Plane → Plane → (ℕ → ℕ) → Plane
 unheldHere low up below above ring p = (up p || above p) && not (low p || below p) && eqb (ring p) 0

@@ -15,7 +15,7 @@ ghost use Rattle.rules.specs.Judging.{overlap, badRing, unheld, placeOf, verdic
 ghost use Rattle.rules.specs.Calls.{lengthCases, judgeCases, judgeAnswer};
 ghost use Rattle.laws.specs.Limits.{Ranged};
 ghost use Rattle.laws.specs.Discs.{Halves};
-ghost use Rattle.judge.specs.Search.{Least, flat, bitIn, planeOf, overlapHere, badHere, unheldHere, overlapIn, unheldIn, lender, hasIn, Sized, padCases};
+ghost use Rattle.judge.specs.Search.{Least, flat, bitIn, planeOf, overlapHere, badHere, badBeyond, unheldHere, overlapIn, unheldIn, lender, hasIn, Sized, padCases};
 
 fn smaller(a: usize, b: usize) -> usize
     ensures { λ d. ⌜ d ≡ min a b ⌝ }
@@ -468,7 +468,7 @@ fn touches(
     found
 }
 
-// Whether the pixel may not carry its ring k.
+// Whether the pixel may not carry its ring k. A ring of at most t is taken for near.
 fn bad(
     low: &[u8],
     up: &[u8],
@@ -479,13 +479,14 @@ fn bad(
     r: usize,
     c: usize,
     q: usize,
+    t: u16,
     k: u16,
 ) -> bool
     requires fits { ⌜ (0 < k) × (Sized w h × ((r < h) × (c < w))) ⌝ }
     requires planes { ⌜ (length (now rings) ≡ h * w) × ((length (now low) ≡ h * rowBytes w) × (length (now up) ≡ h * rowBytes w)) ⌝ }
     requires own { ⌜ k ≡ getD (now rings) (r * w + c) 0 ⌝ }
     requires disc { ⌜ Halves q (now half) ⌝ }
-    ensures { λ b. ⌜ b ≡ badHere w h q (planeOf w (now (low .entry))) (planeOf w (now (up .entry))) (λ o. getD (now (rings .entry)) o 0) (r * w + c) ⌝ }
+    ensures { λ b. ⌜ b ≡ badBeyond w h q t (planeOf w (now (low .entry))) (planeOf w (now (up .entry))) (λ o. getD (now (rings .entry)) o 0) (r * w + c) ⌝ }
 {
     let at = r * limits::row_bytes(w);
     if !pixel_at(up, at, c) {
@@ -496,6 +497,9 @@ fn bad(
     }
     if !touches(low, up, rings, w, h, r, c, k) {
         return true;
+    }
+    if k <= t {
+        return false;
     }
     !near_at(low, half, w, h, r, c, q)
 }
@@ -510,11 +514,12 @@ fn bad_row(
     h: usize,
     r: usize,
     q: usize,
+    t: u16,
 ) -> usize
     requires fits { ⌜ Sized w h × (r < h) ⌝ }
     requires planes { ⌜ (length (now rings) ≡ h * w) × ((length (now low) ≡ h * rowBytes w) × (length (now up) ≡ h * rowBytes w)) ⌝ }
     requires disc { ⌜ Halves q (now half) ⌝ }
-    ensures { λ s. ⌜ Least 0 w (λ c. badHere w h q (planeOf w (now (low .entry))) (planeOf w (now (up .entry))) (λ o. getD (now (rings .entry)) o 0) (r * w + c)) s ⌝ }
+    ensures { λ s. ⌜ Least 0 w (λ c. badBeyond w h q t (planeOf w (now (low .entry))) (planeOf w (now (up .entry))) (λ o. getD (now (rings .entry)) o 0) (r * w + c)) s ⌝ }
 {
     let x = r * w;
     if quiet(rings, x, w) {
@@ -524,7 +529,7 @@ fn bad_row(
     while c < w {
         let k = rings[x + c];
         if k != 0 {
-            if bad(low, up, rings, half, w, h, r, c, q, k) {
+            if bad(low, up, rings, half, w, h, r, c, q, t, k) {
                 return c;
             }
         }
@@ -533,7 +538,37 @@ fn bad_row(
     w
 }
 
-// The first bad ring of a pair. A ring plane without rings is passed over.
+// The first bad ring of a pair, where rings of at most t are taken for near.
+fn bad_beyond(
+    low: &[u8],
+    up: &[u8],
+    rings: &[u16],
+    half: &[usize],
+    w: usize,
+    h: usize,
+    q: usize,
+    t: u16,
+) -> usize
+    requires fits { ⌜ Sized w h ⌝ }
+    requires planes { ⌜ (length (now rings) ≡ h * w) × ((length (now low) ≡ h * rowBytes w) × (length (now up) ≡ h * rowBytes w)) ⌝ }
+    requires disc { ⌜ Halves q (now half) ⌝ }
+    ensures { λ s. ⌜ Least 0 (h * w) (badBeyond w h q t (planeOf w (now (low .entry))) (planeOf w (now (up .entry))) (λ o. getD (now (rings .entry)) o 0)) s ⌝ }
+{
+    let mut x = 0;
+    let mut r = 0;
+    while r < h {
+        let c = bad_row(low, up, rings, half, w, h, r, q, t);
+        if c < w {
+            return x + c;
+        }
+        x += w;
+        r += 1;
+    }
+    x
+}
+
+// The first bad ring of a pair. A ring plane without rings is passed over. Rings up to t are near by themselves where every ring
+// has one to lean on; so only where something is amiss all are measured, to find the first.
 fn bad_plane(
     low: &[u8],
     up: &[u8],
@@ -542,26 +577,21 @@ fn bad_plane(
     w: usize,
     h: usize,
     q: usize,
+    t: u16,
 ) -> usize
-    requires fits { ⌜ Sized w h ⌝ }
+    requires fits { ⌜ Sized w h × (2 * (t * t) ≤ q) ⌝ }
     requires planes { ⌜ (length (now rings) ≡ h * w) × ((length (now low) ≡ h * rowBytes w) × (length (now up) ≡ h * rowBytes w)) ⌝ }
     requires disc { ⌜ Halves q (now half) ⌝ }
     ensures { λ s. ⌜ Least 0 (h * w) (badHere w h q (planeOf w (now (low .entry))) (planeOf w (now (up .entry))) (λ o. getD (now (rings .entry)) o 0)) s ⌝ }
 {
-    if quiet(rings, 0, h * w) {
-        return h * w;
+    let area = h * w;
+    if quiet(rings, 0, area) {
+        return area;
     }
-    let mut x = 0;
-    let mut r = 0;
-    while r < h {
-        let c = bad_row(low, up, rings, half, w, h, r, q);
-        if c < w {
-            return x + c;
-        }
-        x += w;
-        r += 1;
+    if area <= bad_beyond(low, up, rings, half, w, h, q, t) {
+        return area;
     }
-    x
+    bad_beyond(low, up, rings, half, w, h, q, 0)
 }
 
 // The first bad ring of the stack.
@@ -573,9 +603,10 @@ fn bad_at(
     h: usize,
     n: usize,
     q: usize,
+    t: u16,
 ) -> usize
     requires fits { ⌜ (Sized w h × ((1 ≤ n) × (n ≤ 512))) × ((length (now part) ≡ n * h * rowBytes w) × (length (now rings) ≡ (n - 1) * (h * w))) ⌝ }
-    requires disc { ⌜ Halves q (now half) ⌝ }
+    requires disc { ⌜ Halves q (now half) × (2 * (t * t) ≤ q) ⌝ }
     ensures { λ s. ⌜ Least 0 ((n - 1) * (h * w)) (flat w h (badRing w h (λ (i : ℕ). q) (pixel w h (now (part .entry))) (ringAt w h (now (rings .entry))))) s ⌝ }
 {
     let bytes = h * limits::row_bytes(w);
@@ -596,6 +627,7 @@ fn bad_at(
             w,
             h,
             q,
+            t,
         );
         if p < area {
             return x + p;
@@ -670,6 +702,13 @@ fn place_of(x: usize, w: usize, h: usize, up: usize) -> Place
     }
 }
 
+fn narrow(x: usize) -> u16
+    requires { ⌜ x < 65536 ⌝ }
+    ensures { λ r. ⌜ r ≡ x ⌝ }
+{
+    x as u16
+}
+
 // The first bad ring of the stack, with the half-widths of the disc within reach.
 fn bad_ring(s: Settings, part: &[u8], rings: &[u16]) -> usize
     requires { ⌜ Ranged s × ((length (now part) ≡ stackBytes s) × (length (now rings) ≡ ringsIn s)) ⌝ }
@@ -681,7 +720,16 @@ fn bad_ring(s: Settings, part: &[u8], rings: &[u16]) -> usize
     let q = reach.0 * reach.0;
     let mut half = [0usize; 33];
     roots::halves(q, &mut half);
-    bad_at(part, rings, &half, s.w, s.h, s.n, q)
+    bad_at(
+        part,
+        rings,
+        &half,
+        s.w,
+        s.h,
+        s.n,
+        q,
+        narrow(roots::root(q / 2)),
+    )
 }
 
 // What is found in a stack that is not refused: overlap anywhere before any bad ring, and any bad ring before any unheld pixel.

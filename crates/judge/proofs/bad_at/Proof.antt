@@ -17,10 +17,10 @@ use Rattle.judge.proofs.bad_plane.Reads as bad-plane-reads
 use Rattle.limits.proofs.row_bytes.Reads as row-bytes-reads
 
 abbrev Inv-loop : tie.InvT-loop
-Inv-loop part rings half w h n q bytes area pairs at₀ x₀ i₀ at x i = (i ≤ pairs) × (at ≡ i * bytes) × (x ≡ i * area) × ((y : ℕ) → y < x → y < (n - 1) * (h * w) → flat w h (badRing w h (λ (j : ℕ). q) (pixel w h part) (ringAt w h rings)) y ≡ false)
+Inv-loop part rings half w h n q t bytes area pairs at₀ x₀ i₀ at x i = (i ≤ pairs) × (at ≡ i * bytes) × (x ≡ i * area) × ((y : ℕ) → y < x → y < (n - 1) * (h * w) → flat w h (badRing w h (λ (j : ℕ). q) (pixel w h part) (ringAt w h rings)) y ≡ false)
 
 abbrev μ-loop : tie.MeasureT-loop
-μ-loop part rings half w h n q bytes area pairs at₀ x₀ i₀ at x i = pairs - i
+μ-loop part rings half w h n q t bytes area pairs at₀ x₀ i₀ at x i = pairs - i
 
 row-bytes-requires : tie.Need-row-bytes-requires Inv-loop μ-loop
 row-bytes-requires c κs = search needs
@@ -77,7 +77,7 @@ part-bad-plane-end-3 : tie.Need-part-bad-plane-end-3 Inv-loop μ-loop
 part-bad-plane-end-3 c = omega (arith, pair-in (c .before .before .before .before .before .before .before .before .args .w) (c .before .before .before .before .before .before .before .before .args .h) (c .before .before .before .before .before .before .before .before .args .n) (c .before .before .before .loop .i) (c .before .before .before .loop .at) (c .before .before .before .before .before .before .before .before .args .h * c .before .before .before .before .row-bytes .result) (c .before .before .before .loop .x) (rw (c .before .before .before .before .row-bytes .ensures .0)) (c .before .before .before .loop .inv .1) (c .before .before .before .loop .inv .2) (c .before .before .loop-test .taken))
 
 bad-plane-requires : tie.Need-bad-plane-requires Inv-loop μ-loop
-bad-plane-requires c κs = (c .before .before .before .before .before .before .before .before .before .pre .0 .0 .0, ((rings-length (c .before .before .before .before .before .before .before .before .before .args .w) (c .before .before .before .before .before .before .before .before .before .args .h) (c .before .before .before .before .before .before .before .before .before .args .n) (c .before .before .before .before .loop .i) (c .before .before .before .before .loop .at) (c .before .before .before .before .before .before .before .before .before .args .h * c .before .before .before .before .before .row-bytes .result) (c .before .before .before .before .loop .x) (rw (c .before .before .before .before .before .row-bytes .ensures .0)) (c .before .before .before .before .loop .inv .1) (c .before .before .before .before .loop .inv .2) (c .before .before .before .loop-test .taken) (c .before .before .before .before .before .before .before .before .before .args .rings .now) (c .before .before .before .before .before .before .before .before .before .pre .0 .1 .1), (lower-length (c .before .before .before .before .before .before .before .before .before .args .w) (c .before .before .before .before .before .before .before .before .before .args .h) (c .before .before .before .before .before .before .before .before .before .args .n) (c .before .before .before .before .loop .i) (c .before .before .before .before .loop .at) (c .before .before .before .before .before .before .before .before .before .args .h * c .before .before .before .before .before .row-bytes .result) (c .before .before .before .before .loop .x) (rw (c .before .before .before .before .before .row-bytes .ensures .0)) (c .before .before .before .before .loop .inv .1) (c .before .before .before .before .loop .inv .2) (c .before .before .before .loop-test .taken) (c .before .before .before .before .before .before .before .before .before .args .part .now) (c .before .before .before .before .before .before .before .before .before .pre .0 .1 .0), upper-length (c .before .before .before .before .before .before .before .before .before .args .w) (c .before .before .before .before .before .before .before .before .before .args .h) (c .before .before .before .before .before .before .before .before .before .args .n) (c .before .before .before .before .loop .i) (c .before .before .before .before .loop .at) (c .before .before .before .before .before .before .before .before .before .args .h * c .before .before .before .before .before .row-bytes .result) (c .before .before .before .before .loop .x) (rw (c .before .before .before .before .before .row-bytes .ensures .0)) (c .before .before .before .before .loop .inv .1) (c .before .before .before .before .loop .inv .2) (c .before .before .before .loop-test .taken) (c .before .before .before .before .before .before .before .before .before .args .part .now) (c .before .before .before .before .before .before .before .before .before .pre .0 .1 .0))), c .before .before .before .before .before .before .before .before .before .pre .1))
+bad-plane-requires c κs = ((c .before .before .before .before .before .before .before .before .before .pre .0 .0 .0, c .before .before .before .before .before .before .before .before .before .pre .1 .1), ((rings-length (c .before .before .before .before .before .before .before .before .before .args .w) (c .before .before .before .before .before .before .before .before .before .args .h) (c .before .before .before .before .before .before .before .before .before .args .n) (c .before .before .before .before .loop .i) (c .before .before .before .before .loop .at) (c .before .before .before .before .before .before .before .before .before .args .h * c .before .before .before .before .before .row-bytes .result) (c .before .before .before .before .loop .x) (rw (c .before .before .before .before .before .row-bytes .ensures .0)) (c .before .before .before .before .loop .inv .1) (c .before .before .before .before .loop .inv .2) (c .before .before .before .loop-test .taken) (c .before .before .before .before .before .before .before .before .before .args .rings .now) (c .before .before .before .before .before .before .before .before .before .pre .0 .1 .1), (lower-length (c .before .before .before .before .before .before .before .before .before .args .w) (c .before .before .before .before .before .before .before .before .before .args .h) (c .before .before .before .before .before .before .before .before .before .args .n) (c .before .before .before .before .loop .i) (c .before .before .before .before .loop .at) (c .before .before .before .before .before .before .before .before .before .args .h * c .before .before .before .before .before .row-bytes .result) (c .before .before .before .before .loop .x) (rw (c .before .before .before .before .before .row-bytes .ensures .0)) (c .before .before .before .before .loop .inv .1) (c .before .before .before .before .loop .inv .2) (c .before .before .before .loop-test .taken) (c .before .before .before .before .before .before .before .before .before .args .part .now) (c .before .before .before .before .before .before .before .before .before .pre .0 .1 .0), upper-length (c .before .before .before .before .before .before .before .before .before .args .w) (c .before .before .before .before .before .before .before .before .before .args .h) (c .before .before .before .before .before .before .before .before .before .args .n) (c .before .before .before .before .loop .i) (c .before .before .before .before .loop .at) (c .before .before .before .before .before .before .before .before .before .args .h * c .before .before .before .before .before .row-bytes .result) (c .before .before .before .before .loop .x) (rw (c .before .before .before .before .before .row-bytes .ensures .0)) (c .before .before .before .before .loop .inv .1) (c .before .before .before .before .loop .inv .2) (c .before .before .before .loop-test .taken) (c .before .before .before .before .before .before .before .before .before .args .part .now) (c .before .before .before .before .before .before .before .before .before .pre .0 .1 .0))), c .before .before .before .before .before .before .before .before .before .pre .1 .0))
 
 add-result : tie.Need-add-result Inv-loop μ-loop
 add-result c = omega (arith, pair-in (c .before .before .before .before .before .before .before .before .before .before .before .args .w) (c .before .before .before .before .before .before .before .before .before .before .before .args .h) (c .before .before .before .before .before .before .before .before .before .before .before .args .n) (c .before .before .before .before .before .before .loop .i) (c .before .before .before .before .before .before .loop .at) (c .before .before .before .before .before .before .before .before .before .before .before .args .h * c .before .before .before .before .before .before .before .row-bytes .result) (c .before .before .before .before .before .before .loop .x) (rw (c .before .before .before .before .before .before .before .row-bytes .ensures .0)) (c .before .before .before .before .before .before .loop .inv .1) (c .before .before .before .before .before .before .loop .inv .2) (c .before .before .before .before .before .loop-test .taken))

@@ -8,7 +8,7 @@ use lib.ListN.{getD}
 use Rattle.judge.proofs.Eight.{no-ring, quiet-row}
 use Rattle.judge.proofs.Finding.{fails-more, least-none, least-one}
 use Rattle.judge.proofs.Rows.{area-fit, stretch-in}
-use Rattle.judge.specs.Search.{badHere, planeOf}
+use Rattle.judge.specs.Search.{badBeyond, planeOf}
 use Rattle.judge.proofs.bad_row.Statement.{statement}
 use Rattle.judge.proofs.bad_row.Tie as tie
 use Rattle.judge.proofs.bad_row.Reads as reads
@@ -17,10 +17,10 @@ use Rattle.judge.proofs.bad.Reads as bad-reads
 use Rattle.judge.proofs.quiet.Reads as quiet-reads
 
 abbrev Inv-loop : tie.InvT-loop
-Inv-loop low up rings half w h r q x c₀ c = (c ≤ w) × ((y : ℕ) → 0 ≤ y → y < c → badHere w h q (planeOf w low) (planeOf w up) (λ o. getD rings o 0) (r * w + y) ≡ false)
+Inv-loop low up rings half w h r q t x c₀ c = (c ≤ w) × ((y : ℕ) → 0 ≤ y → y < c → badBeyond w h q t (planeOf w low) (planeOf w up) (λ o. getD rings o 0) (r * w + y) ≡ false)
 
 abbrev μ-loop : tie.MeasureT-loop
-μ-loop low up rings half w h r q x c₀ c = w - c
+μ-loop low up rings half w h r q t x c₀ c = w - c
 
 mul-x : tie.Need-mul-x Inv-loop μ-loop
 mul-x c = omega (arith, stretch-in (c .before .before .before .before .args .r) (c .before .before .before .before .args .h) (c .before .before .before .before .args .w) (c .before .before .before .before .args .r * c .before .before .before .before .args .w) refl (c .before .before .before .before .pre .0 .1), area-fit _ _ (c .before .before .before .before .pre .0 .0))
@@ -29,7 +29,7 @@ quiet-requires : tie.Need-quiet-requires Inv-loop μ-loop
 quiet-requires c κs = omega (arith, stretch-in (c .before .before .before .before .args .r) (c .before .before .before .before .args .h) (c .before .before .before .before .args .w) (c .before .before .before .before .args .r * c .before .before .before .before .args .w) refl (c .before .before .before .before .pre .0 .1))
 
 returns : tie.Need-returns Inv-loop μ-loop
-returns c = least-none 0 (c .before .before .before .before .before .before .args .w) _ (omega arith) (quiet-row (c .before .before .before .before .before .before .args .w) (c .before .before .before .before .before .before .args .h) (c .before .before .before .before .before .before .args .q) (planeOf (c .before .before .before .before .before .before .args .w) (c .before .before .before .before .before .before .args .low .now)) (planeOf (c .before .before .before .before .before .before .args .w) (c .before .before .before .before .before .before .args .up .now)) (c .before .before .before .before .before .before .args .rings .now) (c .before .before .before .before .before .before .args .r) (c .before .before .before .before .before .before .args .r * c .before .before .before .before .before .before .args .w) refl (c .before .quiet .ensures (c .if1 .taken)))
+returns c = least-none 0 (c .before .before .before .before .before .before .args .w) _ (omega arith) (quiet-row (c .before .before .before .before .before .before .args .w) (c .before .before .before .before .before .before .args .h) (c .before .before .before .before .before .before .args .q) (c .before .before .before .before .before .before .args .t) (planeOf (c .before .before .before .before .before .before .args .w) (c .before .before .before .before .before .before .args .low .now)) (planeOf (c .before .before .before .before .before .before .args .w) (c .before .before .before .before .before .before .args .up .now)) (c .before .before .before .before .before .before .args .rings .now) (c .before .before .before .before .before .before .args .r) (c .before .before .before .before .before .before .args .r * c .before .before .before .before .before .before .args .w) refl (c .before .quiet .ensures (c .if1 .taken)))
 
 loop-holds : tie.Need-loop-holds Inv-loop μ-loop
 loop-holds c = (omega arith, λ y a l. absurd (omega arith))
@@ -56,7 +56,7 @@ loop-less : tie.Need-loop-less Inv-loop μ-loop
 loop-less c = search needs
 
 loop-again : tie.Need-loop-again Inv-loop μ-loop
-loop-again c = (omega arith, fails-more 0 (λ n. badHere (c .before .before .before .before .before .before .before .before .before .before .args .w) (c .before .before .before .before .before .before .before .before .before .before .args .h) (c .before .before .before .before .before .before .before .before .before .before .args .q) (planeOf (c .before .before .before .before .before .before .before .before .before .before .args .w) (c .before .before .before .before .before .before .before .before .before .before .args .low .now)) (planeOf (c .before .before .before .before .before .before .before .before .before .before .args .w) (c .before .before .before .before .before .before .before .before .before .before .args .up .now)) (λ o. getD (c .before .before .before .before .before .before .before .before .before .before .args .rings .now) o 0) (c .before .before .before .before .before .before .before .before .before .before .args .r * c .before .before .before .before .before .before .before .before .before .before .args .w + n)) (c .before .before .before .loop .c) (c .before .before .before .loop .inv .1) (⊎-elim (λ (a, b, e). sym (b .ensures) ∙ e .left) (λ a. no-ring (c .before .before .before .before .before .before .before .before .before .before .args .w) (c .before .before .before .before .before .before .before .before .before .before .args .h) (c .before .before .before .before .before .before .before .before .before .before .args .q) (planeOf (c .before .before .before .before .before .before .before .before .before .before .args .w) (c .before .before .before .before .before .before .before .before .before .before .args .low .now)) (planeOf (c .before .before .before .before .before .before .before .before .before .before .args .w) (c .before .before .before .before .before .before .before .before .before .before .args .up .now)) (λ o. getD (c .before .before .before .before .before .before .before .before .before .before .args .rings .now) o 0) (c .before .before .before .before .before .before .before .before .before .before .args .r * c .before .before .before .before .before .before .before .before .before .before .args .w + c .before .before .before .loop .c) (a .left)) (c .if2 .came)))
+loop-again c = (omega arith, fails-more 0 (λ n. badBeyond (c .before .before .before .before .before .before .before .before .before .before .args .w) (c .before .before .before .before .before .before .before .before .before .before .args .h) (c .before .before .before .before .before .before .before .before .before .before .args .q) (c .before .before .before .before .before .before .before .before .before .before .args .t) (planeOf (c .before .before .before .before .before .before .before .before .before .before .args .w) (c .before .before .before .before .before .before .before .before .before .before .args .low .now)) (planeOf (c .before .before .before .before .before .before .before .before .before .before .args .w) (c .before .before .before .before .before .before .before .before .before .before .args .up .now)) (λ o. getD (c .before .before .before .before .before .before .before .before .before .before .args .rings .now) o 0) (c .before .before .before .before .before .before .before .before .before .before .args .r * c .before .before .before .before .before .before .before .before .before .before .args .w + n)) (c .before .before .before .loop .c) (c .before .before .before .loop .inv .1) (⊎-elim (λ (a, b, e). sym (b .ensures) ∙ e .left) (λ a. no-ring (c .before .before .before .before .before .before .before .before .before .before .args .w) (c .before .before .before .before .before .before .before .before .before .before .args .h) (c .before .before .before .before .before .before .before .before .before .before .args .q) (c .before .before .before .before .before .before .before .before .before .before .args .t) (planeOf (c .before .before .before .before .before .before .before .before .before .before .args .w) (c .before .before .before .before .before .before .before .before .before .before .args .low .now)) (planeOf (c .before .before .before .before .before .before .before .before .before .before .args .w) (c .before .before .before .before .before .before .before .before .before .before .args .up .now)) (λ o. getD (c .before .before .before .before .before .before .before .before .before .before .args .rings .now) o 0) (c .before .before .before .before .before .before .before .before .before .before .args .r * c .before .before .before .before .before .before .before .before .before .before .args .w + c .before .before .before .loop .c) (a .left)) (c .if2 .came)))
 
 returns-3 : tie.Need-returns-3 Inv-loop μ-loop
 returns-3 c = least-none 0 (c .before .before .before .before .before .before .before .before .args .w) _ (omega arith) (λ y a l. c .before .loop .inv .1 y a (omega arith))

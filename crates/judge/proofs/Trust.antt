@@ -1,0 +1,100 @@
+-- Rings that are near by themselves: a pixel of ring k is within k rows and k columns of a seed, so while 2 k² is at most the
+-- bound nothing need be measured, where every ring has one to lean on.
+use mathlib.Core.Path.{_≡_, refl, sym, _∙_}
+use mathlib.Core.Bool.{Bool, true, false, not, _&&_, _||_}
+use Prim.Native.Nat.{ℕ, zero, suc, _-_, _*_, _/_, _%_, _<_, _≤_}
+use native.Mathlib.Nat.{mul-le-mul}
+use native.Mathlib.Omega.{arith}
+use lib.Dec.{leb, ltb, eqb}
+use borrow.Author.Tests.{lt-ltb, le-ltb, le-leb, leb-true}
+use Rattle.rules.specs.Images.{Plane}
+use Rattle.rules.specs.Reach.{square, apart, distance², root}
+use Rattle.rules.specs.Planning.{shadow, near, seeds, reached, source, touch, touching, fits}
+use Rattle.laws.specs.Tests.{split, clash, and-l, and-r, and-in, not-in, some-in, some-out}
+use Rattle.laws.specs.Discs.{root-low, root-small}
+use Rattle.laws.specs.Growing.{seed-source, ring-source}
+use Rattle.judge.specs.Search.{Least, badHere, badBeyond}
+use Rattle.judge.proofs.Finding.{least-none}
+use Rattle.judge.proofs.Eight.{leans, beyond-none}
+
+-- one step further
+further : (a b c n : ℕ) → apart a b ≤ 1 → apart b c ≤ n → apart a c ≤ suc n
+unfolding apart
+further a b c n u v = omega arith
+
+module _ (w h q t : ℕ) (low up : Plane) (ring : ℕ → ℕ) (all : (p : ℕ) → p < h * w → badBeyond w h q t low up ring p ≡ false) where
+  good : (p j : ℕ) → p < h * w → ring p ≡ suc j → (shadow low up p && (leb (ring p) t || near w h q low p) && leans w h low up ring p) ≡ true
+  unfolding badBeyond
+  good p j l e =
+      let G : Bool = shadow low up p && (leb (ring p) t || near w h q low p) && leans w h low up ring p in
+      split G (λ g. g) (λ g. clash (and-in (ltb 0 (ring p)) (not G) (lt-ltb 0 (ring p) (omega arith)) (not-in G g)) (all p l))
+
+  leaning : (p j : ℕ) → p < h * w → ring p ≡ suc j → (o : ℕ) × (o < h * w) × (touch w p o ≡ true) × (source (seeds low up) ring j o ≡ true)
+  unfolding touching
+  leaning p j l e =
+      let z : ring p - 1 ≡ j = omega arith in
+      let s : touching (h * w) (touch w) (source (seeds low up) ring j) p ≡ true = rw z at (and-r (shadow low up p && (leb (ring p) t || near w h q low p)) (leans w h low up ring p) (good p j l e)) in
+      let (o, lo, b) = some-out (h * w) (λ o. touch w p o && source (seeds low up) ring j o) s in
+      (o, lo, and-l (touch w p o) _ b, and-r (touch w p o) _ b)
+
+  beside : (p o : ℕ) → touch w p o ≡ true → (apart (p / w) (o / w) ≤ 1) × (apart (p % w) (o % w) ≤ 1)
+  unfolding touch
+  beside p o e =
+      let b : (leb (apart (p / w) (o / w)) 1 && leb (apart (p % w) (o % w)) 1) ≡ true = and-l _ (not (eqb p o)) e in
+      (leb-true _ 1 (and-l _ (leb (apart (p % w) (o % w)) 1) b), leb-true _ 1 (and-r (leb (apart (p / w) (o / w)) 1) _ b))
+
+  seed-within : (j p : ℕ) → p < h * w → ring p ≡ suc j → (o : ℕ) × (o < h * w) × (low o ≡ true) × (apart (p / w) (o / w) ≤ suc j) × (apart (p % w) (o % w) ≤ suc j)
+  unfolding seeds
+  seed-within zero p l e =
+      let (o, lo, b, s) = leaning p zero l e in
+      let (r, c) = beside p o b in
+      (o, lo, and-l (low o) (up o) (seed-source (seeds low up) ring o s .0), r, c)
+  seed-within (suc j) p l e =
+      let (x, lx, b, s) = leaning p (suc j) l e in
+      let (o, lo, f, r, c) = seed-within j x lx (ring-source (seeds low up) ring j x s) in
+      let (r₁, c₁) = beside p x b in
+      (o, lo, f, further (p / w) (x / w) (o / w) (suc j) r₁ r, further (p % w) (x % w) (o % w) (suc j) c₁ c)
+
+  near-itself : 2 * (t * t) ≤ q → (p j : ℕ) → p < h * w → ring p ≡ suc j → ring p ≤ t → near w h q low p ≡ true
+  unfolding near distance² square
+  near-itself lq p j l e b =
+      let (o, lo, f, r, c) = seed-within j p l e in
+      let r′ : apart (p / w) (o / w) ≤ t = omega arith in
+      let c′ : apart (p % w) (o % w) ≤ t = omega arith in
+      some-in (h * w) (λ o. low o && leb (distance² w p o) q) o lo (and-in (low o) _ f (le-leb _ q (omega (arith, mul-le-mul r′ r′, mul-le-mul c′ c′))))
+
+  -- so nothing is bad
+  pub trusted : 2 * (t * t) ≤ q → (p : ℕ) → p < h * w → badHere w h q low up ring p ≡ false
+  unfolding badHere fits reached
+  trusted lq p l = go (ring p) refl
+    where
+      go : (r : ℕ) → ring p ≡ r → badHere w h q low up ring p ≡ false
+      go zero e = rw (le-ltb 0 (ring p) (omega arith))
+      go (suc j) e =
+          let g : (shadow low up p && (leb (ring p) t || near w h q low p) && leans w h low up ring p) ≡ true = good p j l e in
+          let m : (shadow low up p && (leb (ring p) t || near w h q low p)) ≡ true = and-l _ (leans w h low up ring p) g in
+          let n : near w h q low p ≡ true =
+          split (leb (ring p) t) (λ b. near-itself lq p j l e (leb-true (ring p) t b)) (λ b. rw b at (and-r (shadow low up p) _ m)) in
+          rw (lt-ltb 0 (ring p) (omega arith), and-l (shadow low up p) _ m, n, and-r (shadow low up p && (leb (ring p) t || near w h q low p)) _ g)
+
+-- the search beyond t found nothing
+pub trusted-none : (w h q t : ℕ) (low up : Plane) (ring : ℕ → ℕ) (r : ℕ) → 2 * (t * t) ≤ q → Least 0 (h * w) (badBeyond w h q t low up ring) r → h * w ≤ r → Least 0 (h * w) (badHere w h q low up ring) (h * w)
+trusted-none w h q t low up ring r lq s b =
+    least-none 0 (h * w) _ (omega arith) (λ p a l. trusted w h q t low up ring (λ o lo. s .before o (omega arith) (omega arith)) lq p l)
+
+-- the search beyond 0 is the one for bad rings
+pub beyond-least : (w h q : ℕ) (low up : Plane) (ring : ℕ → ℕ) (r : ℕ) → Least 0 (h * w) (badBeyond w h q 0 low up ring) r → Least 0 (h * w) (badHere w h q low up ring) r
+beyond-least w h q low up ring r s = record {
+  low = s .low;
+  bound = s .bound;
+  before = λ y a l. sym (beyond-none w h q low up ring y) ∙ s .before y a l;
+  at = λ l. sym (beyond-none w h q low up ring r) ∙ s .at l;
+}
+
+-- the largest ring that is near by itself: the root of half the bound
+pub trust-small : (q r : ℕ) → q ≤ 1024 → r ≡ root (q / 2) → r ≤ 32
+trust-small q r l e = rw e (root-small (q / 2) (omega arith))
+
+pub trust-fits : (q r t : ℕ) → r ≡ root (q / 2) → t ≡ r → 2 * (t * t) ≤ q
+unfolding square
+trust-fits q r t er et = let s : t * t ≤ q / 2 = rw (et, er) (root-low (q / 2)) in omega arith
