@@ -1,0 +1,29 @@
+/* What the makers of trials share. */
+#ifndef MAKE_H
+#define MAKE_H
+
+#include "trial.h"
+
+#define TWO_32 ((uint64_t)1 << 32)
+
+/* make.c */
+void pick_settings_of(struct dice *d, struct trial *t, uint32_t reach); /* a pitch and an overhang with the given reach, 0 to 32 */
+void pick_settings(struct dice *d, struct trial *t);
+void draw_lent(struct dice *d, struct trial *t);                        /* lends a part of the trial's size */
+void plan_by_peer(struct trial *t);                                     /* lends support and rings as the peer plans them */
+void write_by_peer(struct dice *d, struct trial *t, int stored);        /* lends a good file of the part, and what it was made of */
+void lend_scribbled(struct dice *d, struct trial *t, enum lent which, uint64_t len);
+
+/* spoil.c */
+void spoil_settings(struct dice *d, struct trial *t);
+void spoil_reach(struct dice *d, struct trial *t);                    /* 33 or more */
+void spoil_length(struct dice *d, struct trial *t, enum lent which);
+void spoil(struct dice *d, struct trial *t);                          /* one to three faults of numbers, lengths, padding */
+
+/* make_check.c, make_file.c: whole trials, whose size and settings are picked */
+void make_check(struct dice *d, struct trial *t);
+void make_file(struct dice *d, struct trial *t);
+void make_read(struct dice *d, struct trial *t);
+void make_copy_rings(struct dice *d, struct trial *t);
+
+#endif

@@ -1,0 +1,304 @@
+/* The bench pieces and limits with the answers that are written down for them, asked of the library and of the peer. */
+#include "trial.h"
+
+#include "peer.h"
+
+#include <stdio.h>
+#include <stdlib.h>
+#include <string.h>
+
+enum { MOST = 24 };
+
+/* Pitch is 100. Answers: support and rings where the call is PLAN; the answer's number and place where it is CHECK. */
+struct piece {
+    const char *name;
+    enum call call;
+    uint64_t w, h, n;
+    uint32_t overhang;
+    uint8_t part[MOST], support[MOST];
+    uint16_t rings[MOST];
+    unsigned number, layer, row, column;
+};
+
+#define RINGS_OF_B {0, 0, 0, 1, 2, 0, 0, 0}
+#define RINGS_OF_F {0, 0, 0, 0, 0, 0, 0, 0, 0, 0, 0, 1, 2, 0, 0, 0}
+
+static const struct piece pieces[] = {
+    {"a", PLAN, 8, 1, 1, 200, {0xFF}, {0}, {0}, 0, 0, 0, 0},
+    {"b", PLAN, 8, 1, 2, 200, {0xE0, 0xFF}, {0x07}, RINGS_OF_B, 0, 0, 0, 0},
+    {"c", PLAN, 8, 1, 2, 200, {0xE0, 0x1F}, {0x1F}, {0}, 0, 0, 0, 0},
+    {"d", PLAN, 8, 1, 2, 300, {0xE0, 0xF7}, {0x07}, {0, 0, 0, 1}, 0, 0, 0, 0},
+    {"e", PLAN, 8, 1, 2, 99, {0xE0, 0xFF}, {0x1F}, {0}, 0, 0, 0, 0},
+    {"f", PLAN, 8, 1, 3, 200, {0x00, 0xE0, 0xFF}, {0xE7, 0x07}, RINGS_OF_F, 0, 0, 0, 0},
+    {"g", PLAN, 8, 1, 3, 200, {0x01, 0xE0, 0xFF}, {0xE6, 0x07}, RINGS_OF_F, 0, 0, 0, 0},
+    {"h", PLAN, 2, 2, 2, 100, {0x80, 0x00, 0xC0, 0xC0}, {0x00, 0x40}, {0, 1, 1, 0}, 0, 0, 0, 0},
+    {"i, all zero", PLAN, 8, 1, 3, 200, {0}, {0}, {0}, 0, 0, 0, 0},
+    {"i, equal layers", PLAN, 8, 1, 3, 200, {0xA7, 0xA7, 0xA7}, {0}, {0}, 0, 0, 0, 0},
+    {"j", CHECK, 8, 1, 2, 200, {0xE0, 0xFF}, {0x0F, 0x00}, RINGS_OF_B, 0, 0, 0, 0},
+    {"k", CHECK, 8, 1, 2, 200, {0xE0, 0xFF}, {0x07, 0x00}, {0, 0, 0, 1, 1}, 10, 1, 0, 4},
+    {"l", CHECK, 8, 1, 2, 200, {0xE0, 0xFF}, {0x03, 0x00}, RINGS_OF_B, 11, 1, 0, 5},
+    {"m", CHECK, 8, 1, 2, 200, {0xE0, 0xFF}, {0x27, 0x00}, RINGS_OF_B, 9, 0, 0, 2},
+    {"a seed with a ring serves no ring 1", CHECK, 8, 1, 2, 200, {0x07, 0xFF}, {0xE0, 0x00}, {0, 0, 0, 0, 1, 9}, 10, 1, 0, 4},
+    {"two rings lean on each other", CHECK, 8, 1, 2, 300, {0xE0, 0xF7}, {0x00}, {0, 0, 0, 1, 0, 1, 2}, 10, 1, 0, 5},
+};
+
+struct reach {
+    uint32_t pitch, overhang;
+    unsigned number, reach;
+};
+
+static const struct reach reaches[] = {
+    {101, 510, 0, 5}, {135, 3810, 0, 28}, {50, 1649, 0, 32}, {50, 1650, 3, 0}, {100, 0, 0, 0}, {100, 99, 0, 0}, {100, 100, 0, 1},
+    {9, 10000, 2, 0}, {0, 0, 2, 0}, {10, 10000, 3, 0}, {10, 329, 0, 32}, {10, 330, 3, 0}, {1000, 10000, 0, 10}, {1000, 10001, 2, 0},
+    {1001, 0, 2, 0},
+};
+
+static const uint8_t example_file[28] = {0, 0, 0, 5, 0, 8, 0, 1, 0, 2, 0, 0x64, 0, 0xC8, 0, 0, 0, 2, 0xE0, 0xFF};
+static const char example_report[] = "job 8 1 2 reach 2\n1 8 0 0\n0 3 3 2\n";
+
+static int failures, endless;
+
+static void expect(int right, const char *who, const char *what)
+{
+    if (right || endless) return;
+    failures++;
+    printf("pieces: %s: %s is not the answer written down\n", who, what);
+}
+
+typedef void side(const struct trial *, struct outcome *);
+
+/* Calls one side, and after a call that did not end nothing more. */
+static void ask(side *of, const struct trial *t, struct outcome *o)
+{
+    memset(o, 0, sizeof *o);
+    if (endless) return;
+    of(t, o);
+    if (o->signal != ENDLESS_SIGNAL) return;
+    endless = 1;
+    failures++;
+    printf("pieces: %s did not end\n", call_names[t->call]);
+}
+
+static void free_outcome_of(side *of, struct outcome *o)
+{
+    if (of == call_peer) outcome_free(o);
+}
+
+/* ---- Pieces ---- */
+
+static void lend_piece(struct trial *t, const struct piece *p)
+{
+    memset(t, 0, sizeof *t);
+    t->call = p->call;
+    t->w = p->w;
+    t->h = p->h;
+    t->n = p->n;
+    t->pitch = 100;
+    t->overhang = p->overhang;
+    buffer_put(t, PART_STACK, p->part, stack_bytes_of(t));
+    buffer_put(t, SUPPORT_STACK, p->support, stack_bytes_of(t));
+    buffer_put(t, RING_PLANES, p->rings, ring_count_of(t));
+    if (p->call == PLAN) {
+        memset(t->lent[SUPPORT_STACK].bytes, 0xFF, t->lent[SUPPORT_STACK].held);
+        memset(t->lent[RING_PLANES].bytes, 0xFF, t->lent[RING_PLANES].held);
+    }
+}
+
+static int holds(const struct trial *t, const struct outcome *o, enum lent which, const void *bytes)
+{
+    uint64_t held = t->lent[which].held;
+    return held == 0 || (o->after[which] != NULL && memcmp(o->after[which], bytes, held) == 0);
+}
+
+static void try_piece(const struct piece *p, side *of, const char *who)
+{
+    struct trial t;
+    struct outcome o;
+    lend_piece(&t, p);
+    ask(of, &t, &o);
+    expect(o.signal == 0 && kg_number(o.answer) == p->number && kg_layer(o.answer) == p->layer && kg_row(o.answer) == p->row
+               && kg_column(o.answer) == p->column,
+           who, p->name);
+    expect(holds(&t, &o, SUPPORT_STACK, p->support), who, p->name);
+    expect(holds(&t, &o, RING_PLANES, p->rings), who, p->name);
+    free_outcome_of(of, &o);
+    trial_free(&t);
+}
+
+/* ---- Limits ---- */
+
+static void try_reaches(side *of, const char *who)
+{
+    for (size_t k = 0; k < sizeof reaches / sizeof *reaches; k++) {
+        struct trial t;
+        struct outcome o;
+        char what[64];
+        memset(&t, 0, sizeof t);
+        t.call = REACH;
+        t.pitch = reaches[k].pitch;
+        t.overhang = reaches[k].overhang;
+        ask(of, &t, &o);
+        snprintf(what, sizeof what, "reach of p %u, t %u", (unsigned)t.pitch, (unsigned)t.overhang);
+        expect(o.signal == 0 && o.answer == (reaches[k].number | (uint64_t)reaches[k].reach << 16), who, what);
+        free_outcome_of(of, &o);
+    }
+}
+
+/* An empty part of the given size is planned, or refused. */
+static void try_size(uint64_t w, uint64_t h, uint64_t n, unsigned number, side *of, const char *who)
+{
+    struct trial t;
+    struct outcome o;
+    char what[64];
+    memset(&t, 0, sizeof t);
+    t.call = PLAN;
+    t.w = w;
+    t.h = h;
+    t.n = n;
+    t.pitch = 100;
+    buffer_make(&t, PART_STACK, n * h * row_bytes_of(w));
+    buffer_make(&t, SUPPORT_STACK, n * h * row_bytes_of(w));
+    buffer_make(&t, RING_PLANES, n == 0 ? 0 : (n - 1) * w * h);
+    ask(of, &t, &o);
+    snprintf(what, sizeof what, "size %u %u %u", (unsigned)w, (unsigned)h, (unsigned)n);
+    expect(o.signal == 0 && o.answer == number, who, what);
+    free_outcome_of(of, &o);
+    trial_free(&t);
+}
+
+static void try_sizes(side *of, const char *who)
+{
+    try_size(256, 1, 2, 0, of, who);
+    try_size(257, 1, 2, 1, of, who);
+    try_size(1, 256, 2, 0, of, who);
+    try_size(1, 257, 2, 1, of, who);
+    try_size(1, 1, 512, 0, of, who);
+    try_size(1, 1, 513, 1, of, who);
+    try_size(0, 1, 1, 1, of, who);
+    try_size(1, 0, 1, 1, of, who);
+    try_size(1, 1, 0, 1, of, who);
+}
+
+/* ---- The example file ---- */
+
+static void try_reading(side *of, const char *who)
+{
+    static const uint64_t told[KG_TOLD] = {8, 1, 2, 100, 200, 0, 4, 18, 24, 28};
+    struct trial t;
+    struct outcome o;
+    memset(&t, 0, sizeof t);
+    t.call = READ;
+    buffer_put(&t, JOB_FILE, example_file, sizeof example_file);
+    buffer_make(&t, TOLD, KG_TOLD);
+    ask(of, &t, &o);
+    expect(o.signal == 0 && o.answer == 0 && holds(&t, &o, TOLD, told), who, "reading the example file");
+    free_outcome_of(of, &o);
+    t.call = PART;
+    ask(of, &t, &o);
+    expect(o.signal == 0 && kg_offset(o.answer) == 18 && kg_length(o.answer) == 2, who, "the part of the example file");
+    free_outcome_of(of, &o);
+    t.call = SUPPORT;
+    ask(of, &t, &o);
+    expect(o.signal == 0 && o.answer == 0, who, "the support of the example file");
+    free_outcome_of(of, &o);
+    trial_free(&t);
+}
+
+/* The first `len` bytes of the example, one byte changed, are refused with a number. */
+static void try_damaged(uint64_t len, uint64_t at, uint8_t byte, unsigned number, side *of, const char *who)
+{
+    struct trial t;
+    struct outcome o;
+    char what[80];
+    memset(&t, 0, sizeof t);
+    t.call = READ;
+    buffer_put(&t, JOB_FILE, example_file, len < sizeof example_file ? len : sizeof example_file);
+    buffer_make(&t, JOB_FILE, len);
+    if (at < len) t.lent[JOB_FILE].bytes[at] = byte;
+    buffer_make(&t, TOLD, KG_TOLD);
+    ask(of, &t, &o);
+    snprintf(what, sizeof what, "%u bytes of the example with %u at %u", (unsigned)len, (unsigned)byte, (unsigned)at);
+    expect(o.signal == 0 && o.answer == number, who, what);
+    free_outcome_of(of, &o);
+    trial_free(&t);
+}
+
+static void try_damages(side *of, const char *who)
+{
+    try_damaged(0, 0, 0, 12, of, who);
+    try_damaged(3, 2, 9, 12, of, who);    /* a count cut short, whatever it begins with */
+    try_damaged(4, 3, 6, 13, of, who);    /* a wrong count before its contents */
+    try_damaged(13, 5, 0, 12, of, who);   /* values only when section 1 is whole */
+    try_damaged(14, 5, 0, 1, of, who);
+    try_damaged(14, 11, 9, 2, of, who);
+    try_damaged(14, 13, 0xC8, 12, of, who);
+    try_damaged(18, 14, 0xFF, 13, of, who);
+    try_damaged(19, 0, 0, 12, of, who);
+    try_damaged(24, 23, 1, 13, of, who);
+    try_damaged(24, 23, 2, 12, of, who);
+    try_damaged(28, 27, 8, 13, of, who);
+    try_damaged(29, 28, 0, 14, of, who);
+    try_damaged(28, 5, 7, 7, of, who);    /* W 7: the last bit of FF is padding */
+    try_damaged(29, 5, 7, 14, of, who);   /* padding after 14 */
+}
+
+static void try_writing(side *of, const char *who)
+{
+    struct trial t;
+    struct outcome o;
+    memset(&t, 0, sizeof t);
+    t.call = WRITE;
+    t.w = 8;
+    t.h = 1;
+    t.n = 2;
+    t.pitch = 100;
+    t.overhang = 200;
+    buffer_put(&t, PART_STACK, "\xE0\xFF", 2);
+    buffer_make(&t, SUPPORT_STACK, 0);
+    buffer_make(&t, RING_PLANES, 0);
+    buffer_make(&t, OUT, sizeof example_file);
+    ask(of, &t, &o);
+    expect(o.signal == 0 && kg_number(o.answer) == 0 && kg_value(o.answer) == 28 && holds(&t, &o, OUT, example_file), who,
+           "writing the example file");
+    free_outcome_of(of, &o);
+    trial_free(&t);
+}
+
+/* ---- The report ---- */
+
+static int reports(const uint8_t *file, uint64_t len, const char *text)
+{
+    char out[256];
+    uint64_t length = peer_report(file, len, out, sizeof out);
+    return length == strlen(text) && memcmp(out, text, length) == 0;
+}
+
+static void try_report(void)
+{
+    static uint8_t zeros[65537];
+    uint8_t large[26 + 3 * 256 * 32];
+    expect(reports(example_file, sizeof example_file, example_report), "peer", "the example report");
+    expect(reports(NULL, 0, "refused 12\n"), "peer", "the report of nothing");
+    expect(reports(zeros, 65536, "refused 13\n"), "peer", "the report of 65,536 bytes");
+    expect(reports(zeros, 65537, "refused 17\n"), "peer", "the report of 65,537 bytes");
+    peer_write(256, 64, 3, 100, 0, zeros, 3 * 64 * 32, NULL, 0, NULL, 0, large, sizeof large);
+    expect(reports(large, 26 + 3 * 64 * 32, "job 256 64 3 reach 0\n2 0 0 0\n1 0 0 0\n0 0 0 0\n"), "peer", "the report of 32,768 rings");
+    peer_write(129, 128, 3, 100, 0, zeros, 3 * 128 * 17, NULL, 0, NULL, 0, large, sizeof large);
+    expect(reports(large, 26 + 3 * 128 * 17, "refused 17\n"), "peer", "the report of more than 32,768 rings");
+}
+
+int try_pieces(void)
+{
+    static side *const sides[2] = {call_library, call_peer};
+    static const char *const names[2] = {"library", "peer"};
+    for (int k = 0; k < 2; k++) {
+        for (size_t j = 0; j < sizeof pieces / sizeof *pieces; j++) try_piece(&pieces[j], sides[k], names[k]);
+        try_reaches(sides[k], names[k]);
+        try_sizes(sides[k], names[k]);
+        try_reading(sides[k], names[k]);
+        try_damages(sides[k], names[k]);
+        try_writing(sides[k], names[k]);
+    }
+    try_report();
+    return failures;
+}

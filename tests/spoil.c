@@ -1,0 +1,127 @@
+/* Spoils the numbers, lengths and padding of a trial. */
+#include "make.h"
+
+static uint64_t hostile_size(struct dice *d, uint64_t was)
+{
+    switch (below(d, 12)) {
+    case 0: return 0;
+    case 1: return 257;
+    case 2: return 513;
+    case 3: return 65535;
+    case 4: return 65536 + was;
+    case 5: return TWO_32 + was;
+    case 6: return TWO_32 + 8;
+    case 7: return ((uint64_t)1 << 63) + was;
+    case 8: return ~(uint64_t)0;
+    case 9: return 0 - was;
+    case 10: return 256 + was;
+    default: return throw_dice(d);
+    }
+}
+
+static void spoil_size(struct dice *d, struct trial *t)
+{
+    uint64_t *numbers[3];
+    uint64_t *one;
+    numbers[0] = &t->w;
+    numbers[1] = &t->h;
+    numbers[2] = &t->n;
+    one = numbers[below(d, 3)];
+    *one = hostile_size(d, *one);
+}
+
+static uint32_t hostile_pitch(struct dice *d, uint32_t was)
+{
+    static const uint32_t hostile[] = {0, 1, 9, 1001, 65535, 65536, 0x80000000u, 0xFFFFFFFFu};
+    uint64_t k = below(d, 10);
+    return k < 8 ? hostile[k] : k == 8 ? was + 65536 : (uint32_t)throw_dice(d);
+}
+
+static uint32_t hostile_overhang(struct dice *d, uint32_t was)
+{
+    static const uint32_t hostile[] = {10001, 10002, 65535, 65536, 0x80000000u, 0xFFFFFFFFu};
+    uint64_t k = below(d, 8);
+    return k < 6 ? hostile[k] : k == 6 ? was + 65536 : (uint32_t)throw_dice(d);
+}
+
+void spoil_settings(struct dice *d, struct trial *t)
+{
+    if (chance(d, 2))
+        t->pitch = hostile_pitch(d, t->pitch);
+    else
+        t->overhang = hostile_overhang(d, t->overhang);
+}
+
+/* A reach of 33 or more, often just so. */
+void spoil_reach(struct dice *d, struct trial *t)
+{
+    t->pitch = (uint32_t)between(d, 10, 303);
+    t->overhang = 33 * t->pitch + (uint32_t)(chance(d, 2) ? 0 : below(d, 10001 - 33 * t->pitch));
+}
+
+static uint64_t wrong_length(struct dice *d, uint64_t was)
+{
+    switch (below(d, 9)) {
+    case 0:
+    case 1: return was + 1;
+    case 2:
+    case 3: return was > 0 ? was - 1 : 1;
+    case 4: return was + 8;
+    case 5: return was > 8 ? was - 8 : was + 8;
+    case 6: return 0;
+    case 7: return 2 * was + 1;
+    default: return below(d, was + 20);
+    }
+}
+
+/* Gives a buffer another length. What comes to it is scribbled; a long one is 2^32 elements more than it holds. */
+void spoil_length(struct dice *d, struct trial *t, enum lent which)
+{
+    struct buffer *b = &t->lent[which];
+    uint64_t was = b->len, held = b->held, len = wrong_length(d, was);
+    if (chance(d, 40)) {
+        b->len += TWO_32;
+        return;
+    }
+    buffer_make(t, which, len);
+    if (b->held > held) scribble(d, b->bytes + held, b->held - held);
+}
+
+static void spoil_padding(struct dice *d, struct trial *t, enum lent which)
+{
+    uint64_t rows = t->n * t->h, bytes = row_bytes_of(t->w), row;
+    if (t->w % 8 == 0 || t->lent[which].len != stack_bytes_of(t)) return;
+    switch (below(d, 3)) {
+    case 0: row = rows - 1; break;
+    case 1: row = 0; break;
+    default: row = below(d, rows); break;
+    }
+    t->lent[which].bytes[row * bytes + bytes - 1] |= (uint8_t)(1 << below(d, 8 - t->w % 8));
+}
+
+/* One to three faults of the numbers, lengths and padding of a call on stacks. */
+void spoil(struct dice *d, struct trial *t)
+{
+    for (uint64_t times = between(d, 1, 3); times > 0; times--) {
+        switch (below(d, 13)) {
+        case 0:
+        case 1: spoil_length(d, t, PART_STACK); break;
+        case 2:
+        case 3: spoil_length(d, t, SUPPORT_STACK); break;
+        case 4:
+        case 5: spoil_length(d, t, RING_PLANES); break;
+        case 6: spoil_settings(d, t); break;
+        case 7: spoil_reach(d, t); break;
+        case 8:
+            if (size_in_range(t)) spoil_size(d, t);
+            break;
+        default:
+            if (!size_in_range(t)) break;
+            if (chance(d, 2)) spoil_padding(d, t, PART_STACK);
+            if (chance(d, 2)) spoil_padding(d, t, SUPPORT_STACK);
+        }
+        if (is_long(&t->lent[PART_STACK], PART_STACK) || is_long(&t->lent[SUPPORT_STACK], SUPPORT_STACK)
+            || is_long(&t->lent[RING_PLANES], RING_PLANES))
+            return;
+    }
+}
