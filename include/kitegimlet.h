@@ -2,8 +2,8 @@
  *
  * Every call takes every input, whatever its numbers, lengths and bytes, and ends with a defined answer. No call allocates, keeps
  * anything between calls, or touches memory that it was not lent. Where a call refuses, all lent memory is as it was before.
- * A buffer is a pointer and the number of its elements; with 0 elements the pointer may be null. Buffers that a call writes must
- * not overlap any other buffer of that call.
+ * A buffer is a pointer and the number of its elements, all of which must be there, aligned for their type; with 0 elements the
+ * pointer may be null. Buffers that a call writes must not overlap any other buffer of that call.
  *
  * Images: a row is (w + 7) / 8 bytes, the highest bit being the leftmost pixel, 1 meaning filled, unused low bits 0. A plane is h rows,
  * row 0 first; a stack is n planes, layer 0 first, so n * h * ((w + 7) / 8) bytes. Rings: n - 1 planes of w * h numbers of 16 bits; plane i
@@ -54,10 +54,11 @@ enum kg_told {
 };
 
 /* Reads a job file. Where it is not refused, `told` gets the values of enum kg_told, as many as it has room for; further elements stay.
- * Refusals 12, 13, 14, 1, 2, 3, 7, 8 in reading order. */
+ * Refusals: 12, 13 and 12 again for each of the four sections in turn, 1, 2, 3 after the first of them; then 14, 7, 8. */
 kg_answer kg_read(const uint8_t *file, uint64_t file_len, uint64_t *told, uint64_t told_len);
 
-/* A stretch of a job file: its offset in the upper half, its length in the lower; all 0 where the job is refused or none is stored. */
+/* A stretch of a job file: its offset in the upper half, its length in the lower; no job that is read is longer than 75,366,426 bytes.
+ * All 0 where the job is refused, and for support also where none is stored: kg_read tells the two apart. */
 typedef uint64_t kg_stretch;
 
 static inline uint64_t kg_offset(kg_stretch s) { return s >> 32; }

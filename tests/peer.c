@@ -408,9 +408,9 @@ kg_answer peer_read(const uint8_t *file, uint64_t file_len, uint64_t *told, uint
     uint64_t all[KG_TOLD];
     unsigned number = read_job(file, file_len, &job);
     if (number != 0) return refused(number);
-    all[KG_W] = job.s.w;
-    all[KG_H] = job.s.h;
-    all[KG_N] = job.s.n;
+    all[KG_WIDTH] = job.s.w;
+    all[KG_HEIGHT] = job.s.h;
+    all[KG_LAYERS] = job.s.n;
     all[KG_PITCH] = job.pitch;
     all[KG_OVERHANG] = job.overhang;
     all[KG_STORED] = job.stored ? 1 : 0;
