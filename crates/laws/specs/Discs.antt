@@ -1,16 +1,16 @@
 -- Roots and discs: the floor-root rule, and what a half-width says of distances.
-use mathlib.Core.Path.{_≡_, sym, subst, _∙_}
+use mathlib.Core.Path.{_≡_, refl, sym, subst, _∙_}
 use mathlib.Core.Bool.{Bool, true, false}
-use mathlib.Core.List.{List}
+use mathlib.Core.List.{List, [], _∷_, _++_}
 use Prim.Native.Nat.{ℕ, zero, suc, _+_, _-_, _*_, _≤_, _<_}
-use native.Mathlib.Nat.{mul-le-mul}
+use native.Mathlib.Nat.{mul-le-mul, suc-mul, mul-suc}
 use native.Mathlib.Omega.{arith}
-use lib.Dec.{leb}
-use lib.ListN.{length, getD, set, length-set}
-use lib.Seq.{getD-set-same, getD-set-other}
+use lib.Dec.{leb, ltb}
+use lib.ListN.{length, getD, set, length-set, replicate, length-replicate, getD-replicate, List·getD-append}
+use lib.Seq.{getD-set-same, getD-set-other, getD-append-add}
 use native.Mathlib.Decide.{decLe, ℕ-discrete}
-use borrow.Author.Tests.{leb-true, leb-false, le-leb}
-use Rattle.rules.specs.Tools.{largest}
+use borrow.Author.Tests.{leb-true, leb-false, le-leb, ltb-true, ltb-false}
+use Rattle.rules.specs.Tools.{largest, joinedUp}
 use Rattle.rules.specs.Reach.{square, root, halfWidth}
 use Rattle.laws.specs.Tests.{split, clash}
 
@@ -128,3 +128,60 @@ square-small q d h e = elim (decLe 33 d) [ yes a ↦ absurd (omega (arith, mul-l
 pub some-row : (q d : ℕ) → q < d * d → 0 < d
 some-row q zero h = absurd (omega arith)
 some-row q (suc d) h = omega arith
+
+-- The roots in order are runs: 0 once, 1 three times, r as often as 2 * r + 1 -------------------------------------------------------
+
+abbrev pub rootRun : ℕ → List ℕ
+rootRun r = replicate (2 * r + 1) r
+
+pub root-runs : (n a m k : ℕ) → m ≡ a * a + k → m < (a + n) * (a + n) → getD (joinedUp a n rootRun) k 0 ≡ root m
+unfolding joinedUp square
+root-runs zero a m k e h = let z : a + 0 ≡ a = omega arith in absurd (omega (arith, rw z at h))
+root-runs (suc n) a m k e h =
+    let len : length (rootRun a) ≡ 2 * a + 1 = length-replicate (2 * a + 1) a in
+    split (ltb k (2 * a + 1))
+    (λ t.
+    let l : k < 2 * a + 1 = ltb-true k (2 * a + 1) t in
+    List·getD-append (rootRun a) (joinedUp (suc a) n rootRun) 0 k (omega arith)
+    ∙ getD-replicate (2 * a + 1) k a 0 l
+    ∙ root-is m a (omega arith) (omega (arith, one-more a)))
+    (λ t.
+    let l : 2 * a + 1 ≤ k = ltb-false k (2 * a + 1) t in
+    let z : length (rootRun a) + (k - (2 * a + 1)) ≡ k = omega arith in
+    let y : a + suc n ≡ suc a + n = omega arith in
+    subst (λ (x : ℕ). getD (rootRun a ++ joinedUp (suc a) n rootRun) x 0 ≡ root m) z
+    (getD-append-add (rootRun a) (joinedUp (suc a) n rootRun) (k - (2 * a + 1)) 0
+    ∙ root-runs n (suc a) m (k - (2 * a + 1)) (omega (arith, one-more a)) (rw y at h)))
+  where
+    one-more : (a : ℕ) → suc a * suc a ≡ a * a + (2 * a + 1)
+    one-more a = omega (arith, suc-mul a (suc a), mul-suc a a)
+
+table-length : length (joinedUp 0 32 rootRun) ≡ 1024
+unfolding joinedUp
+table-length = refl
+
+last-entry : getD (joinedUp 0 32 rootRun ++ 32 ∷ []) 1024 0 ≡ 32
+unfolding joinedUp
+last-entry = refl
+
+last-low : square 32 ≤ 1024
+unfolding square
+last-low = omega arith
+
+last-high : 1024 < square (suc 32)
+unfolding square
+last-high = omega arith
+
+-- the table of the roots of 0 to 1,024: 32 runs, and the root of 1,024
+abbrev pub rootTable : List ℕ
+rootTable = joinedUp 0 32 rootRun ++ 32 ∷ []
+
+pub table-rule : (m : ℕ) → m ≤ 1024 → getD rootTable m 0 ≡ root m
+table-rule m h =
+    split (ltb m 1024)
+    (λ t.
+    let l : m < 1024 = ltb-true m 1024 t in
+    List·getD-append (joinedUp 0 32 rootRun) (32 ∷ []) 0 m (omega (arith, table-length)) ∙ root-runs 32 0 m m (omega arith) l)
+    (λ t.
+    let e : m ≡ 1024 = omega (arith, ltb-false m 1024 t) in
+    rw e (last-entry ∙ root-is 1024 32 last-low last-high))

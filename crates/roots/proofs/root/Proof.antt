@@ -1,9 +1,7 @@
--- The rule of the table, once over all of it: the roots of 0 to 1,024 are computed and held against its entries.
+-- The rule of the table, once over all of it: its entries are held against the 32 runs of roots, by computing.
 use mathlib.Core.Path.{_∙_}
-use Rattle.rules.specs.Tools.{each, largest}
-use Rattle.rules.specs.Reach.{square, root}
-use Rattle.laws.specs.Tests.{getD-each}
-use native.Mathlib.Nat.{zero-add}
+use Rattle.rules.specs.Tools.{joinedUp}
+use Rattle.laws.specs.Discs.{table-rule}
 use native.Mathlib.Omega.{arith}
 use borrow.Author.Needs.{needs}
 use Rattle.roots.proofs.root.Statement.{statement}
@@ -19,8 +17,8 @@ wide-requires : tie.Need-wide-requires
 wide-requires c κs = search needs
 
 returns : tie.Need-returns
-unfolding each root largest square
-returns c = c .wide .ensures ∙ (getD-each 0 1025 root (c .before .args .m) 0 (omega arith) ∙ rw zero-add)
+unfolding joinedUp
+returns c = c .wide .ensures ∙ table-rule (c .before .args .m) (c .before .pre)
 
 pub root-spec : {M : Type 1} → statement M
 root-spec = tie.close (tie.spec array-read-wide wide-requires returns)
