@@ -141,11 +141,11 @@ module _ (w h st : ℕ) (z : Sizes w h st) where
           edge P o = let B = spot-in w h st z (P .row) (P .column) (P .row-in) (omega (arith, W, P .column-in)) in
               ⊎-elim (λ (a : j < st * 8). absurd (omega (arith, B, P .here))) (λ (a : (h + 1) * st * 8 ≤ j). absurd (omega (arith, B, P .here))) o
 
-  touching-in : (f : Plane) (p o : ℕ) → o < h * w → touch w p o ≡ true → f o ≡ true → touching (h * w) (touch w) f p ≡ true
+  pub touching-in : (f : Plane) (p o : ℕ) → o < h * w → touch w p o ≡ true → f o ≡ true → touching (h * w) (touch w) f p ≡ true
   unfolding touching
   touching-in f p o lo t e = some-in (h * w) (λ o. touch w p o && f o) o lo (and-in (touch w p o) _ t e)
 
-  touching-out : (f : Plane) (p : ℕ) → touching (h * w) (touch w) f p ≡ true → (o : ℕ) × (o < h * w) × (touch w p o ≡ true) × (f o ≡ true)
+  pub touching-out : (f : Plane) (p : ℕ) → touching (h * w) (touch w) f p ≡ true → (o : ℕ) × (o < h * w) × (touch w p o ≡ true) × (f o ≡ true)
   unfolding touching
   touching-out f p e = let (o, lo, u) = some-out (h * w) (λ o. touch w p o && f o) e in (o, lo, and-l (touch w p o) _ u, and-r (touch w p o) _ u)
 
