@@ -4,7 +4,7 @@ use mathlib.Core.Path.{_≡_}
 use mathlib.Core.Bool.{Bool, true}
 use mathlib.Core.List.{List}
 use Prim.Native.Nat.{ℕ, _+_, _*_, _/_, _%_, _<_, _≤_}
-use lib.ListN.{getD}
+use lib.ListN.{length, getD}
 use Rattle.rules.specs.Images.{Plane, rowBytes, bitAt}
 
 -- bit j of the bytes l
@@ -43,3 +43,13 @@ pub record Scratch (w h st : ℕ) (f : Plane) (l : List ℕ) : Type 0 where
 -- the pixels of a plane in scratch
 unfoldable pub seen : ℕ → ℕ → List ℕ → Plane
 seen w st l p = bitOf l (spot st (p / w) (p % w))
+
+-- l is room for a plane: long enough, and only pixels' bits are set
+pub record Ready (w h st : ℕ) (l : List ℕ) : Type 0 where
+  pub long : 8704 ≤ length l
+  pub framed : Framed w h st l
+
+-- l is such room and holds the plane f
+pub record Drawn (w h st : ℕ) (f : Plane) (l : List ℕ) : Type 0 where
+  pub long : 8704 ≤ length l
+  pub is : Scratch w h st f l

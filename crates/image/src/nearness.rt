@@ -5,7 +5,7 @@ ghost use Prim.Native.Nat.{ℕ, min, _+_, _≤_};
 ghost use lib.ListN.{length};
 ghost use Rattle.rules.specs.Planning.{near};
 ghost use Rattle.laws.specs.Discs.{Halves};
-ghost use Rattle.image.specs.Scratch.{Sizes, Framed, Scratch, seen};
+ghost use Rattle.image.specs.Scratch.{Sizes, Framed, Scratch, seen, Ready, Drawn};
 ghost use Rattle.image.specs.Widening.{widened};
 
 fn min2(a: usize, b: usize) -> usize
@@ -17,9 +17,8 @@ fn min2(a: usize, b: usize) -> usize
 // The plane one column wider to each side. temp is scratch.
 fn wider(wide: &mut [u8], temp: &mut [u8], mask: &[u8], w: usize, h: usize, st: usize)
     requires { ⌜ Sizes w h st ⌝ }
-    requires { ⌜ Scratch w h st (λ p. true) (now mask) ⌝ }
-    requires { ⌜ Framed w h st (now temp) × Framed w h st (now wide) ⌝ }
-    requires { ⌜ (8704 ≤ length (now wide)) × (8704 ≤ length (now temp)) × (8704 ≤ length (now mask)) ⌝ }
+    requires { ⌜ Drawn w h st (λ p. true) (now mask) ⌝ }
+    requires { ⌜ Ready w h st (now wide) × Ready w h st (now temp) ⌝ }
     ensures { λ _. ⌜ ((k : ℕ) → (f : ℕ → Bool) → Scratch w h st (widened w k f) (now (wide .entry)) → Scratch w h st (widened w (k + 1) f) (now (wide .exit))) ⌝ }
     ensures { λ _. ⌜ Framed w h st (now (temp .exit)) ⌝ }
 {
@@ -42,12 +41,11 @@ pub fn near_plane(
     q: usize,
 )
     requires { ⌜ Sizes w h st ⌝ }
-    requires { ⌜ Scratch w h st (λ p. true) (now mask) ⌝ }
+    requires { ⌜ Drawn w h st (λ p. true) (now mask) ⌝ }
     requires { ⌜ Halves q (now half) ⌝ }
-    requires { ⌜ Framed w h st (now low) × Framed w h st (now wide) × Framed w h st (now temp) ⌝ }
-    requires { ⌜ (8704 ≤ length (now low)) × (8704 ≤ length (now out)) × (8704 ≤ length (now wide)) × (8704 ≤ length (now temp)) × (8704 ≤ length (now mask)) ⌝ }
-    ensures { λ _. ⌜ Scratch w h st (near w h q (seen w st (now (low .entry)))) (now (out .exit)) ⌝ }
-    ensures { λ _. ⌜ Framed w h st (now (wide .exit)) × Framed w h st (now (temp .exit)) ⌝ }
+    requires { ⌜ Ready w h st (now low) × Ready w h st (now out) × Ready w h st (now wide) × Ready w h st (now temp) ⌝ }
+    ensures { λ _. ⌜ Drawn w h st (near w h q (seen w st (now (low .entry)))) (now (out .exit)) ⌝ }
+    ensures { λ _. ⌜ Ready w h st (now (wide .exit)) × Ready w h st (now (temp .exit)) ⌝ }
 {
     let n = (h + 2) * st;
     let e = (h + 1) * st;

@@ -4,7 +4,7 @@ ghost use Prim.Native.Nat.{_+_, _*_, _≤_};
 ghost use lib.ListN.{length};
 ghost use Rattle.rules.specs.Images.{rowBytes};
 ghost use Rattle.image.specs.Rows.{packed, planeBytes, Clean, Run, Runs};
-ghost use Rattle.image.specs.Scratch.{Sizes, Framed, Scratch, seen};
+ghost use Rattle.image.specs.Scratch.{Sizes, seen, Ready, Drawn};
 
 // n bytes from i of src to j of out.
 fn run(src: &[u8], out: &mut [u8], i: usize, j: usize, n: usize)
@@ -34,8 +34,8 @@ fn runs(src: &[u8], out: &mut [u8], h: usize, n: usize, a: usize, sa: usize, b: 
 pub fn read_plane(s: &[u8], out: &mut [u8], w: usize, h: usize, st: usize)
     requires { ⌜ Sizes w h st ⌝ }
     requires { ⌜ Clean w h (now s) ⌝ }
-    requires { ⌜ Framed w h st (now out) × (8704 ≤ length (now out)) ⌝ }
-    ensures { λ _. ⌜ Scratch w h st (packed w (now (s .entry))) (now (out .exit)) ⌝ }
+    requires { ⌜ Ready w h st (now out) ⌝ }
+    ensures { λ _. ⌜ Drawn w h st (packed w (now (s .entry))) (now (out .exit)) ⌝ }
 {
     runs(s, out, h, st - 1, 0, st - 1, st, st);
 }
@@ -43,7 +43,7 @@ pub fn read_plane(s: &[u8], out: &mut [u8], w: usize, h: usize, st: usize)
 // Scratch into a packed plane.
 pub fn write_plane(p: &[u8], s: &mut [u8], w: usize, h: usize, st: usize)
     requires { ⌜ Sizes w h st ⌝ }
-    requires { ⌜ Framed w h st (now p) × (8704 ≤ length (now p)) × (length (now s) ≡ h * rowBytes w) ⌝ }
+    requires { ⌜ Ready w h st (now p) × (length (now s) ≡ h * rowBytes w) ⌝ }
     ensures { λ _. ⌜ now (s .exit) ≡ planeBytes w h (seen w st (now (p .entry))) ⌝ }
 {
     runs(p, s, h, st - 1, st, st, 0, st - 1);

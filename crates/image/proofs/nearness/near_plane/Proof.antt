@@ -40,10 +40,10 @@ mul-e : tie.Need-mul-e Inv-loop2 μ-loop2 Inv-loop μ-loop
 mul-e c = let A = c .before .before .before .before .before .before .args in let P = c .before .before .before .before .before .before .pre in omega (arith, size-max (A .w) (A .h) (A .st) (P .0))
 
 clear-requires : tie.Need-clear-requires Inv-loop2 μ-loop2 Inv-loop μ-loop
-clear-requires c κs = let A = c .before .before .before .before .before .before .before .args in let P = c .before .before .before .before .before .before .before .pre in omega (arith, size-max (A .w) (A .h) (A .st) (P .0), P .1 .1 .1 .1)
+clear-requires c κs = let A = c .before .before .before .before .before .before .before .args in let P = c .before .before .before .before .before .before .before .pre in omega (arith, size-max (A .w) (A .h) (A .st) (P .0), P .1 .1 .1, P .1 .0 .long)
 
 copy-requires : tie.Need-copy-requires Inv-loop2 μ-loop2 Inv-loop μ-loop
-copy-requires c κs = let A = c .before .before .before .before .before .before .before .before .before .before .before .args in let P = c .before .before .before .before .before .before .before .before .before .before .before .pre in omega (arith, size-max (A .w) (A .h) (A .st) (P .0), P .1 .1 .1 .1)
+copy-requires c κs = let A = c .before .before .before .before .before .before .before .before .before .before .before .args in let P = c .before .before .before .before .before .before .before .before .before .before .before .pre in omega (arith, size-max (A .w) (A .h) (A .st) (P .0), P .1 .1 .1, P .1 .0 .long)
 
 shared-slice-read-min2 : tie.Need-shared-slice-read-min2 Inv-loop2 μ-loop2 Inv-loop μ-loop
 shared-slice-read-min2 c = let A = c .before .before .before .before .before .before .before .before .before .before .before .before .before .before .before .args in let P = c .before .before .before .before .before .before .before .before .before .before .before .before .before .before .before .pre in omega (arith, P .1 .1 .0 .long)
@@ -60,14 +60,14 @@ loop-holds c =
     let M = c .min2 in
     let hv = P .1 .1 .0 in
     let f = seen (A .w) (A .st) (A .low .now) in
-    let s = framed-scratch (A .w) (A .h) (A .st) (P .0) (A .low .now) (P .1 .1 .1 .0 .0) in (
+    let s = framed-scratch (A .w) (A .h) (A .st) (P .0) (A .low .now) (P .1 .1 .1 .0 .framed) in (
       refl,
       refl,
       refl,
       omega (arith, M .ensures),
       omega (arith, M .ensures, hv .last),
-      P .1 .1 .1 .0 .2,
-      widened-zero (A .w) (A .h) (A .st) (P .0) f (c .before .before .before .before .copy .last .1 .0) (scratch-copy (A .w) (A .h) (A .st) (P .0) f (c .before .before .before .before .copy .last .1 .0) (A .wide .now) (A .low .now) s (P .1 .1 .1 .0 .1) (c .before .before .before .before .copy .ensures)),
+      P .1 .1 .1 .3 .framed,
+      widened-zero (A .w) (A .h) (A .st) (P .0) f (c .before .before .before .before .copy .last .1 .0) (scratch-copy (A .w) (A .h) (A .st) (P .0) f (c .before .before .before .before .copy .last .1 .0) (A .wide .now) (A .low .now) s (P .1 .1 .1 .2 .framed) (c .before .before .before .before .copy .ensures)),
       from-none (A .w) (A .h) (A .st) (P .0) (A .q) (M .result) f (c .before .before .before .before .before .before .before .before .clear .last .0) (start-far (A .q) (A .h) (M .result) (A .half .now) hv (M .ensures))
           (λ j lj. c .before .before .before .before .before .before .before .before .clear .ensures .inner j (omega arith) lj),
       start-in (A .q) (A .h) (M .result) (A .half .now) hv (M .ensures),
@@ -86,8 +86,19 @@ loop2-holds : tie.Need-loop2-holds Inv-loop2 μ-loop2 Inv-loop μ-loop
 loop2-holds c = let L = c .before .before .loop in (refl, refl, L .inv .5, L .inv .6, L .inv .8 (L .left - 1) (omega (arith, c .before .loop-test .taken)))
 
 wider-requires : tie.Need-wider-requires Inv-loop2 μ-loop2 Inv-loop μ-loop
-wider-requires c κs = let A = c .before .before .before .before .before .before .before .before .before .before .before .before .before .before .before .before .before .before .before .before .before .before .before .args in let P = c .before .before .before .before .before .before .before .before .before .before .before .before .before .before .before .before .before .before .before .before .before .before .before .pre in let I = c .before .before .before .loop2 in let L = c .before .before .before .before .before .before .loop in
-    (P .0, (P .1 .0, ((I .inv .2, I .inv .3 .rest), omega (arith, P .1 .1 .1 .1, I .inv .0, I .inv .1, L .inv .1, L .inv .2, c .before .before .before .before .before .before .before .before .before .before .before .copy .kept .1 .0))))
+wider-requires c κs =
+    let P = c .before .before .before .before .before .before .before .before .before .before .before .before .before .before .before .before .before .before .before .before .before .before .before .pre in
+    let I = c .before .before .before .loop2 in
+    let L = c .before .before .before .before .before .before .loop in (
+      P .0,
+      (
+        P .1 .0,
+        (
+          record { long = omega (arith, P .1 .1 .1 .2 .long, I .inv .0, L .inv .1, c .before .before .before .before .before .before .before .before .before .before .before .copy .kept .1 .0); framed = I .inv .3 .rest },
+          record { long = omega (arith, P .1 .1 .1 .3 .long, I .inv .1, L .inv .2); framed = I .inv .2 },
+        ),
+      ),
+    )
 
 add-wid : tie.Need-add-wid Inv-loop2 μ-loop2 Inv-loop μ-loop
 add-wid c = omega (arith, c .before .before .before .before .before .before .before .loop2-test .taken, c .before .before .before .before .before .before .before .before .before .shared-slice-known5 .given (c .before .before .before .before .before .before .before .before .before .before .before .loop .left - 1))
@@ -117,14 +128,14 @@ sub-or-up c = let A = c .before .before .before .before .before .before .before 
 
 or-up-requires : tie.Need-or-up-requires Inv-loop2 μ-loop2 Inv-loop μ-loop
 or-up-requires c κs = let A = c .before .before .before .before .before .before .before .before .before .before .before .before .before .before .before .before .before .before .before .before .before .before .before .args in let P = c .before .before .before .before .before .before .before .before .before .before .before .before .before .before .before .before .before .before .before .before .before .before .before .pre in let I = c .before .before .before .loop2 in let L = c .before .before .before .before .before .before .loop in
-    omega (arith, row-fits (L .left - 1) (A .h) (A .st) (omega (arith, L .inv .3, c .before .before .before .before .before .loop-test .taken)), size-max (A .w) (A .h) (A .st) (P .0), P .1 .1 .1 .1, I .inv .0, L .inv .0, L .inv .1, c .before .before .before .before .before .before .before .before .before .before .before .copy .kept .1 .0, c .before .before .before .before .before .before .before .before .before .before .before .before .before .before .before .clear .kept .0)
+    omega (arith, row-fits (L .left - 1) (A .h) (A .st) (omega (arith, L .inv .3, c .before .before .before .before .before .loop-test .taken)), size-max (A .w) (A .h) (A .st) (P .0), P .1 .1 .1, P .1 .0 .long, I .inv .0, L .inv .0, L .inv .1, c .before .before .before .before .before .before .before .before .before .before .before .copy .kept .1 .0, c .before .before .before .before .before .before .before .before .before .before .before .before .before .before .before .clear .kept .0)
 
 add-or-down : tie.Need-add-or-down Inv-loop2 μ-loop2 Inv-loop μ-loop
 add-or-down c = let A = c .before .before .before .before .before .before .before .before .before .before .before .before .before .before .before .before .before .before .before .before .before .before .before .before .before .before .before .before .args in let P = c .before .before .before .before .before .before .before .before .before .before .before .before .before .before .before .before .before .before .before .before .before .before .before .before .before .before .before .before .pre in omega (arith, row-fits (c .before .before .before .before .before .before .before .before .before .before .before .loop .left - 1) (A .h) (A .st) (omega (arith, c .before .before .before .before .before .before .before .before .before .before .before .loop .inv .3, c .before .before .before .before .before .before .before .before .before .before .loop-test .taken)), size-max (A .w) (A .h) (A .st) (P .0))
 
 or-down-requires : tie.Need-or-down-requires Inv-loop2 μ-loop2 Inv-loop μ-loop
 or-down-requires c κs = let A = c .before .before .before .before .before .before .before .before .before .before .before .before .before .before .before .before .before .before .before .before .before .before .before .before .before .before .before .before .args in let P = c .before .before .before .before .before .before .before .before .before .before .before .before .before .before .before .before .before .before .before .before .before .before .before .before .before .before .before .before .pre in let I = c .before .before .before .before .before .before .before .before .loop2 in let L = c .before .before .before .before .before .before .before .before .before .before .before .loop in
-    omega (arith, row-fits (L .left - 1) (A .h) (A .st) (omega (arith, L .inv .3, c .before .before .before .before .before .before .before .before .before .before .loop-test .taken)), size-max (A .w) (A .h) (A .st) (P .0), P .1 .1 .1 .1, I .inv .0, L .inv .0, L .inv .1, c .before .before .before .before .or-up .kept .0, c .before .before .before .before .before .before .before .before .before .before .before .before .before .before .before .before .copy .kept .1 .0, c .before .before .before .before .before .before .before .before .before .before .before .before .before .before .before .before .before .before .before .before .clear .kept .0)
+    omega (arith, row-fits (L .left - 1) (A .h) (A .st) (omega (arith, L .inv .3, c .before .before .before .before .before .before .before .before .before .before .loop-test .taken)), size-max (A .w) (A .h) (A .st) (P .0), P .1 .1 .1, P .1 .0 .long, I .inv .0, L .inv .0, L .inv .1, c .before .before .before .before .or-up .kept .0, c .before .before .before .before .before .before .before .before .before .before .before .before .before .before .before .before .copy .kept .1 .0, c .before .before .before .before .before .before .before .before .before .before .before .before .before .before .before .before .before .before .before .before .clear .kept .0)
 
 loop-less : tie.Need-loop-less Inv-loop2 μ-loop2 Inv-loop μ-loop
 loop-less c = omega (arith, c .before .before .before .before .before .before .before .before .before .before .before .before .before .loop-test .taken)
@@ -162,13 +173,18 @@ same-length-3 c = c .before .loop .inv .2
 
 returns : tie.Need-returns Inv-loop2 μ-loop2 Inv-loop μ-loop
 returns c =
-    let A = c .before .before .before .before .before .before .before .before .before .before .before .before .before .before .before .before .before .before .args in let P = c .before .before .before .before .before .before .before .before .before .before .before .before .before .before .before .before .before .before .pre in
+    let A = c .before .before .before .before .before .before .before .before .before .before .before .before .before .before .before .before .before .before .args in
+    let P = c .before .before .before .before .before .before .before .before .before .before .before .before .before .before .before .before .before .before .pre in
     let L = c .before .loop in
     let f = seen (A .w) (A .st) (A .low .now) in
-    let z : L .left ≡ 0 = omega (arith, c .loop-test .left) in (
-      scratch-same (A .w) (A .h) (A .st) (P .0) (nearFrom (A .w) (A .h) (A .q) 0 f) (near (A .w) (A .h) (A .q) f) (L .out) (λ p lp. from-zero (A .w) (A .h) (A .q) f p)
-          (subst (λ (x : ℕ). Scratch (A .w) (A .h) (A .st) (nearFrom (A .w) (A .h) (A .q) x f) (L .out)) z (L .inv .7)),
-      (L .inv .6 .rest, L .inv .5),
+    let z : L .left ≡ 0 = omega (arith, c .loop-test .left) in
+    let n = scratch-same (A .w) (A .h) (A .st) (P .0) (nearFrom (A .w) (A .h) (A .q) 0 f) (near (A .w) (A .h) (A .q) f) (L .out) (λ p lp. from-zero (A .w) (A .h) (A .q) f p)
+    (subst (λ (x : ℕ). Scratch (A .w) (A .h) (A .st) (nearFrom (A .w) (A .h) (A .q) x f) (L .out)) z (L .inv .7)) in (
+      record { long = omega (arith, P .1 .1 .1 .1 .long, L .inv .0, c .before .before .before .before .before .before .before .before .before .before .clear .kept .0); is = n },
+      (
+        record { long = omega (arith, P .1 .1 .1 .2 .long, L .inv .1, c .before .before .before .before .before .before .copy .kept .1 .0); framed = L .inv .6 .rest },
+        record { long = omega (arith, P .1 .1 .1 .3 .long, L .inv .2); framed = L .inv .5 },
+      ),
     )
 
 pub near-plane-spec : {M : Type 1} → statement M
