@@ -8,7 +8,7 @@ use native.Mathlib.Omega.{arith}
 use lib.Arith.{digits-div, digits-mod, digits-lt}
 use Rattle.rules.specs.Images.{Plane, rowBytes}
 use Rattle.laws.specs.Tests.{split, bool-eq, clash}
-use Rattle.image.specs.Loops.{Bits2}
+use Rattle.image.specs.Loops.{Bits2, Within}
 use Rattle.image.specs.Scratch.{bitOf, spot, Sizes, Framed, Scratch, seen}
 
 pub row-next : (r w : ℕ) → (r + 1) * w ≡ r * w + w
@@ -90,6 +90,13 @@ module _ (w h st : ℕ) (z : Sizes w h st) where
   -- what a plane is, only the pixels that exist decide
   pub scratch-same : (f g : Plane) (l : List ℕ) → ((p : ℕ) → p < h * w → f p ≡ g p) → Scratch w h st f l → Scratch w h st g l
   scratch-same f g l e s = record { pixel = λ r c lr lc. s .pixel r c lr lc ∙ e (r * w + c) (digits-lt lr lc); rest = s .rest }
+
+  -- a plane that was cleared
+  pub cleared-plane : (out was : List ℕ) → Within 0 ((h + 2) * st) (λ j. false) out was → Scratch w h st (λ p. false) out
+  cleared-plane out was wi = record {
+    pixel = λ r c lr lc. wi .inner (spot st r c) (omega arith) (spot-size r c lr (omega (arith, wide-row)));
+    rest = λ j lj u. clash u (wi .inner j (omega arith) lj);
+  }
 
 -- a plane with no bit set
 pub zero-framed : (w h st : ℕ) (l : List ℕ) → ((j : ℕ) → j < (h + 2) * st * 8 → bitOf l j ≡ false) → Framed w h st l

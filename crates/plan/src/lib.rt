@@ -1,0 +1,2 @@
+// Planning: support and ring numbers of a stack, from the top layer down.
+pub mod pair;
