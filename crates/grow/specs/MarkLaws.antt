@@ -14,38 +14,9 @@ use lib.ListN.{length, getD, set, length-set}
 use lib.Seq.{getD-set-same, getD-set-other}
 use Rattle.rules.specs.Images.{bitAt}
 use Rattle.laws.specs.Tests.{clash, and-l, and-r, and-in, or-l, or-r, or-out, not-out}
-use Rattle.image.specs.Bits.{bit-and, bit-or, byte-but-not, eight}
+use Rattle.image.specs.Bits.{all8-at, imp-at, same-at, imp, same-test, all8, bit-and, bit-or, byte-but-not, eight}
 use Rattle.image.specs.Scratch.{bitOf}
 use Rattle.grow.specs.Marks.{Cleared, Lit, Marked}
-
--- tables of eight ---------------------------------------------------------------------------------------------------
-
-unfoldable pub all8 : (ℕ → Bool) → Bool
-all8 f = f 0 && (f 1 && (f 2 && (f 3 && (f 4 && (f 5 && (f 6 && f 7))))))
-
-all8-at : (f : ℕ → Bool) → all8 f ≡ true → (k : ℕ) → k < 8 → f k ≡ true
-unfolding all8
-all8-at f e k l =
-    let e1 = and-r (f 0) _ e in let e2 = and-r (f 1) _ e1 in let e3 = and-r (f 2) _ e2 in let e4 = and-r (f 3) _ e3 in
-    let e5 = and-r (f 4) _ e4 in let e6 = and-r (f 5) _ e5 in let e7 = and-r (f 6) _ e6 in
-    eight (λ k. f k ≡ true) (and-l (f 0) _ e) (and-l (f 1) _ e1) (and-l (f 2) _ e2) (and-l (f 3) _ e3) (and-l (f 4) _ e4) (and-l (f 5) _ e5) (and-l (f 6) _ e6) e7 k l
-
-unfoldable imp : Bool → Bool → Bool
-imp a b = not a || b
-
-imp-at : (a b : Bool) → imp a b ≡ true → a ≡ true → b ≡ true
-unfolding imp
-imp-at true b e f = e
-imp-at false b e f = clash f refl
-
-unfoldable same-test : Bool → Bool → Bool
-same-test true b = b
-same-test false b = not b
-
-same-at : (a b : Bool) → same-test a b ≡ true → a ≡ b
-unfolding same-test
-same-at true b e = sym e
-same-at false b e = sym (not-out b e)
 
 -- the byte with bit k alone
 pub lone-bit : (k m : ℕ) → k < 8 → m < 8 → bitAt (128 / 2 ^ k) m ≡ eqb m k

@@ -8,11 +8,11 @@ use native.Mathlib.Omega.{arith}
 use borrow.Author.Count.{below-more}
 use borrow.Author.Tests.{eqb-true, eqb-false, not-false}
 use lib.Bits.{bitAnd, bitOr, and-shr, and-mod, or-shr, or-mod, or-add-and, and-le-l, and-le-r}
-use lib.Dec.{eqb}
+use lib.Dec.{ltb, eqb}
 use lib.ListN.{length, getD, set}
 use lib.Seq.{getD-set-same, getD-set-other}
 use Rattle.rules.specs.Images.{bitAt}
-use Rattle.laws.specs.Tests.{split}
+use Rattle.laws.specs.Tests.{and-l, not-out, clash, and-r, split}
 use Rattle.image.specs.Loops.{butNot, Bits2}
 use Rattle.image.specs.Scratch.{bitOf}
 
@@ -181,3 +181,46 @@ none-in l a b t all e j x y = ap (λ (n : ℕ). bitAt n (j % 8)) (all (test-zero
 
 pub zero-more : (l : List ℕ) (a i : ℕ) → getD l i 0 ≡ 0 → ((k : ℕ) → a ≤ k → k < i → getD l k 0 ≡ 0) → (k : ℕ) → a ≤ k → k < i + 1 → getD l k 0 ≡ 0
 zero-more l a i e g k x y = split (eqb k i) (λ p. ap (λ (n : ℕ). getD l n 0) (eqb-true k i p) ∙ e) (λ p. g k x (omega (arith, eqb-false k i p)))
+
+-- Tables of eight: a test that is computed at each bit of a byte -------------------------------------------------------
+
+unfoldable pub all8 : (ℕ → Bool) → Bool
+all8 f = f 0 && (f 1 && (f 2 && (f 3 && (f 4 && (f 5 && (f 6 && f 7))))))
+
+pub all8-at : (f : ℕ → Bool) → all8 f ≡ true → (k : ℕ) → k < 8 → f k ≡ true
+unfolding all8
+all8-at f e k l =
+    let e1 = and-r (f 0) _ e in let e2 = and-r (f 1) _ e1 in let e3 = and-r (f 2) _ e2 in let e4 = and-r (f 3) _ e3 in
+    let e5 = and-r (f 4) _ e4 in let e6 = and-r (f 5) _ e5 in let e7 = and-r (f 6) _ e6 in
+    eight (λ k. f k ≡ true) (and-l (f 0) _ e) (and-l (f 1) _ e1) (and-l (f 2) _ e2) (and-l (f 3) _ e3) (and-l (f 4) _ e4) (and-l (f 5) _ e5) (and-l (f 6) _ e6) e7 k l
+
+unfoldable pub imp : Bool → Bool → Bool
+imp a b = not a || b
+
+pub imp-at : (a b : Bool) → imp a b ≡ true → a ≡ true → b ≡ true
+unfolding imp
+imp-at true b e f = e
+imp-at false b e f = clash f refl
+
+unfoldable pub same-test : Bool → Bool → Bool
+same-test true b = b
+same-test false b = not b
+
+pub same-at : (a b : Bool) → same-test a b ≡ true → a ≡ b
+unfolding same-test
+same-at true b e = sym e
+same-at false b e = sym (not-out b e)
+
+-- the byte with all bits, and the byte whose last `pad` bits are off
+pub whole-bit : (m : ℕ) → m < 8 → bitAt 255 m ≡ true
+unfolding bitAt all8
+whole-bit m lm = all8-at (λ m. bitAt 255 m) refl m lm
+
+pub edge-bit : (pad m : ℕ) → pad < 8 → m < 8 → bitAt (256 - 2 ^ pad) m ≡ ltb m (8 - pad)
+unfolding bitAt all8 same-test
+edge-bit pad m lp lm =
+    same-at _ _
+    (all8-at (λ m. same-test (bitAt (256 - 2 ^ pad) m) (ltb m (8 - pad))) (all8-at (λ pad. all8 (λ m. same-test (bitAt (256 - 2 ^ pad) m) (ltb m (8 - pad)))) refl pad lp) m lm)
+
+pub power-small : (k : ℕ) → k < 8 → (1 ≤ 2 ^ k) × (2 ^ k < 256)
+power-small k l = eight (λ k. (1 ≤ 2 ^ k) × (2 ^ k < 256)) (omega arith) (omega arith) (omega arith) (omega arith) (omega arith) (omega arith) (omega arith) (omega arith) k l

@@ -7,6 +7,7 @@ pub mod Rows
 pub mod Bits
 pub mod Planes
 pub mod Filling
+pub mod FullLaws
 pub mod WideningLaws
 pub mod NearLaws
 pub mod TouchLaws

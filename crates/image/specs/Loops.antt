@@ -2,7 +2,9 @@
 use mathlib.Core.Path.{_≡_}
 use mathlib.Core.Bool.{Bool, not, _&&_, _||_}
 use mathlib.Core.List.{List}
-use Prim.Native.Nat.{ℕ, _+_, _-_, _*_, _<_, _≤_}
+use Prim.Native.Nat.{_%_, ℕ, _+_, _-_, _*_, _<_, _≤_}
+use lib.Dec.{ltb}
+use Rattle.rules.specs.Images.{bitAt}
 use Rattle.image.specs.Scratch.{bitOf}
 
 -- each bit of the first n bytes is t of those of a and b
@@ -25,3 +27,7 @@ beside l j = bitOf l j || bitOf l (j + 1) || bitOf l (j - 1)
 -- a bit, or the one st bytes before or after it
 unfoldable pub stacked : ℕ → List ℕ → ℕ → Bool
 stacked st l j = bitOf l (j - st * 8) || bitOf l j || bitOf l (j + st * 8)
+
+-- a row of n whole bytes from byte `at` on, and then the byte `last`
+unfoldable pub fullRow : ℕ → ℕ → ℕ → ℕ → Bool
+fullRow at n last j = ltb (j - at * 8) (n * 8) || bitAt last (j % 8)
