@@ -146,6 +146,21 @@ module _ (w h : ℕ) where
       (λ y. rw (y, byte-same s t row row' e j k, e (8 * j + k) (ltb-true (8 * j + k) w y)))
       (λ y. rw (y, byte-same s t row row' e j k))
 
+  -- two planes that agree at every pixel have the same bytes
+  pub bytes-same : (f g : Plane) → ((p : ℕ) → p < h * w → f p ≡ g p) → planeBytes w h f ≡ planeBytes w h g
+  unfolding planeBytes bytesOf
+  bytes-same f g e =
+      let a : ℕ → ℕ = λ b. byteOf w h (λ i. f) (b / rowBytes w) (b % rowBytes w) 8 in
+      let a′ : ℕ → ℕ = λ b. byteOf w h (λ i. g) (b / rowBytes w) (b % rowBytes w) 8 in
+      let n : ℕ = 1 * h * rowBytes w in
+      ext-getD 0 (each 0 n a) (each 0 n a′) (length-each 0 n a ∙ sym (length-each 0 n a′)) (λ b lb.
+      let lb′ : b < n = omega (arith, length-each 0 n a) in
+      let lh : b < h * rowBytes w = omega (arith, one-mul h) in
+      let (lr, lj) = digits-in b h (rowBytes w) lh in
+      getD-each 0 n a b 0 lb′ ∙ ap a (zero-add b)
+      ∙ byte-same (λ i. f) (λ i. g) (b / rowBytes w) (b / rowBytes w) (λ c lc. rw (mod-eq-of-lt lr) (e (b / rowBytes w * w + c) (digits-lt lr lc))) (b % rowBytes w) 8
+      ∙ sym (getD-each 0 n a′ b 0 lb′ ∙ ap a′ (zero-add b)))
+
   -- the bytes of one layer
   pub stack-plane : (n : ℕ) (T : Stack) (i : ℕ) → i < n → plane (h * rowBytes w) i (bytesOf w h n T) ≡ planeBytes w h (T i)
   unfolding planeBytes bytesOf
