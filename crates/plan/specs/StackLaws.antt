@@ -10,19 +10,21 @@ use native.Mathlib.Omega.{arith}
 use lib.Dec.{ltb, eqb}
 use lib.ListN.{length, getD, take, drop, length-take, length-drop, List·getD-eq-default}
 use lib.Seq.{ext-getD, getD-drop}
+use borrow.Rule.Slice.PartMut.{midOf, putMid}
 use Rattle.rules.specs.Tools.{joinedUp}
-use Rattle.rules.specs.Images.{Plane, Stack, rowBytes, pixel, bytesOf, ringAt}
+use Rattle.rules.specs.Images.{paddingSet, Plane, Stack, rowBytes, pixel, bytesOf, ringAt}
 use Rattle.rules.specs.Planning.{shadow, ringPlane, rings, excused, planned, supportUnder, topOf, empty, plannedRings, plannedBytes}
 use Rattle.laws.specs.Tests.{length-each}
 use Rattle.laws.specs.Growing.{length-grown}
 use Rattle.laws.specs.Soundness.{getD-joined, rings-length, not-excused, planned-step}
 use Rattle.image.specs.Scratch.{Sizes, Scratch, seen, Drawn}
-use Rattle.image.specs.Rows.{packed, planeBytes, plane, OnlyPlane}
-use Rattle.image.specs.Planes.{row-next, scratch-same, scratch-seen}
-use Rattle.image.specs.Packed.{plane-at, plane-long, plane-pixel, stack-plane, bytes-same}
+use Rattle.image.specs.Rows.{Clean, packed, planeBytes, plane, OnlyPlane}
+use Rattle.image.specs.Planes.{row-fits, row-next, scratch-same, scratch-seen}
+use Rattle.image.specs.Packed.{plane-clean, plane-at, plane-long, plane-pixel, stack-plane, bytes-same}
 use Rattle.plan.specs.Pairs.{pairRings, keepBit, pairSupport}
 use Rattle.plan.specs.PairLaws.{rings-same, support-same}
 use Rattle.plan.specs.Stacks.{From, plannedStack, Down}
+use Rattle.image.specs.Stretches.{put-plane, put-only}
 
 -- Lists that agree from some place on -----------------------------------------------------------------------------------
 
@@ -116,7 +118,7 @@ module _ (w h st n q : ℕ) (z : Sizes w h st) (part : List ℕ) (long : length 
   layer-bytes i li = stack-plane w h n (plannedStack w h n q part) i li
 
   -- the top layer has no support
-  pub down-start : (support support' rings upper' above' : List ℕ) → 0 < n → length support ≡ n * (h * rowBytes w) → length rings ≡ (n - 1) * (h * w)
+  pub down-start : (support support' rings upper' above' : List ℕ) → 0 < n → length support ≡ n * h * rowBytes w → length rings ≡ (n - 1) * (h * w)
       → OnlyPlane (h * rowBytes w) (n - 1) support' support → plane (h * rowBytes w) (n - 1) support' ≡ planeBytes w h (λ p. false)
       → Drawn w h st (packed w (plane (h * rowBytes w) (n - 1) part)) upper' → Drawn w h st (λ p. false) above'
       → Down w h st n q (n - 1) part support' rings upper' above'
@@ -125,7 +127,7 @@ module _ (w h st n q : ℕ) (z : Sizes w h st) (part : List ℕ) (long : length 
       let top : (n - 1 + 1) * size ≡ n * size = ap (λ (x : ℕ). x * size) (omega arith) in
       record {
         support-done = from-more size (n - 1) support' support (plannedBytes w h n (λ k. q) part) o
-            (from-end ((n - 1 + 1) * size) support (plannedBytes w h n (λ k. q) part) (omega arith) (omega (arith, length-bytes w h n q part, mul-assoc n h (rowBytes w))))
+            (from-end ((n - 1 + 1) * size) support (plannedBytes w h n (λ k. q) part) (omega (arith, mul-assoc n h (rowBytes w))) (omega (arith, length-bytes w h n q part, mul-assoc n h (rowBytes w))))
             (e ∙ bytes-same w h (λ p. false) (plannedStack w h n q part (n - 1)) (λ p lp. sym (support-top w h n q part p ln)) ∙ sym (layer-bytes (n - 1) (omega arith)));
         rings-done = from-end ((n - 1) * (h * w)) rings (plannedRings w h n (λ k. q) part) (omega arith) (omega (arith, length-rings w h n q part));
         upper-is = record { long = u .long; is = scratch-same w h st z _ _ upper' (layer-pixel (n - 1)) (u .is) };
@@ -164,9 +166,65 @@ module _ (w h st n q : ℕ) (z : Sizes w h st) (part : List ℕ) (long : length 
     }
 
   -- the lowest layer is reached
-  pub down-end : (support rings upper above : List ℕ) → length support ≡ n * (h * rowBytes w) → length rings ≡ (n - 1) * (h * w) → Down w h st n q 0 part support rings upper above
+  pub down-end : (support rings upper above : List ℕ) → length support ≡ n * h * rowBytes w → length rings ≡ (n - 1) * (h * w) → Down w h st n q 0 part support rings upper above
       → (support ≡ plannedBytes w h n (λ k. q) part) × (rings ≡ plannedRings w h n (λ k. q) part)
   down-end support rings upper above ls lr D = (
-    from-all support (plannedBytes w h n (λ k. q) part) (ls ∙ sym (length-bytes w h n q part ∙ mul-assoc n h (rowBytes w))) (λ x l. D .support-done x (omega (arith, zero-mul (h * rowBytes w)))),
+    from-all support (plannedBytes w h n (λ k. q) part) (ls ∙ sym (length-bytes w h n q part)) (λ x l. D .support-done x (omega (arith, zero-mul (h * rowBytes w)))),
     from-all rings (plannedRings w h n (λ k. q) part) (lr ∙ sym (length-rings w h n q part)) (λ x l. D .rings-done x (omega (arith, zero-mul (h * w)))),
   )
+
+-- The stretches of a layer ------------------------------------------------------------------------------------------------
+
+pub layer-room : (w h n size i len : ℕ) → size ≡ h * rowBytes w → len ≡ n * h * rowBytes w → i < n → i * size + size ≤ len
+layer-room w h n size i len es el li = omega (arith, row-fits i n size li, mul-assoc n h (rowBytes w), ap (λ (x : ℕ). n * x) es)
+
+pub ring-room : (w h n area i len : ℕ) → area ≡ h * w → len ≡ (n - 1) * (h * w) → suc i < n → i * area + area ≤ len
+ring-room w h n area i len es el li = omega (arith, row-fits i (n - 1) area (omega arith), ap (λ (x : ℕ). (n - 1) * x) es)
+
+-- what is lent of layer i
+pub lent-part : (w h n size i : ℕ) (part : List ℕ) → size ≡ h * rowBytes w → length part ≡ n * h * rowBytes w → paddingSet w (n * h) part ≡ false → i < n → Clean w h (take (i * size + size - i * size) (drop (i * size) part))
+lent-part w h n size i part es el pad li =
+    let k : i * size + size - i * size ≡ size = omega arith in
+    rw (k, es) (plane-clean w h n part el pad i li)
+
+pub lent-support : (w h n size i : ℕ) (s : List ℕ) → size ≡ h * rowBytes w → length s ≡ n * h * rowBytes w → i < n → length (take (i * size + size - i * size) (drop (i * size) s)) ≡ h * rowBytes w
+lent-support w h n size i s es el li =
+    let k : i * size + size - i * size ≡ size = omega arith in
+    rw (k, es) (plane-long (h * rowBytes w) i n s (el ∙ mul-assoc n h (rowBytes w)) li)
+
+pub lent-rings : (w h n area i : ℕ) (s : List ℕ) → area ≡ h * w → length s ≡ (n - 1) * (h * w) → suc i < n → length (take (i * area + area - i * area) (drop (i * area) s)) ≡ h * w
+lent-rings w h n area i s es el li =
+    let k : i * area + area - i * area ≡ area = omega arith in
+    rw (k, es) (plane-long (h * w) i (n - 1) s el (omega arith))
+
+-- layer i, worked on in its stretches: ys and rs are what the layer routine left in them
+module _ (w h st n q : ℕ) (z : Sizes w h st) (part : List ℕ) (long : length part ≡ n * h * rowBytes w)
+    (i : ℕ) (support rings upper upper' above above' ys rs : List ℕ) (li : suc i < n)
+    (ls : length support ≡ n * h * rowBytes w) (lr : length rings ≡ (n - 1) * (h * w)) (D : Down w h st n q (i + 1) part support rings upper above) where
+  abbrev LayerDone : ℕ → ℕ → Type 0
+  LayerDone size area =
+      length ys ≡ length (midOf (i * size) (i * size + size - i * size) support) → length rs ≡ length (midOf (i * area) (i * area + area - i * area) rings)
+      → rs ≡ pairRings w h q (packed w (take (i * size + size - i * size) (drop (i * size) part))) (seen w st upper)
+      → ys ≡ planeBytes w h (pairSupport w h q (packed w (take (i * size + size - i * size) (drop (i * size) part))) (seen w st upper) (seen w st above))
+      → Drawn w h st (packed w (take (i * size + size - i * size) (drop (i * size) part))) upper'
+      → Drawn w h st (pairSupport w h q (packed w (take (i * size + size - i * size) (drop (i * size) part))) (seen w st upper) (seen w st above)) above'
+      → Down w h st n q i part (putMid (i * size) (i * size + size - i * size) support ys) (putMid (i * area) (i * area + area - i * area) rings rs) upper' above'
+
+  layer-done-at : LayerDone (h * rowBytes w) (h * w)
+  layer-done-at =
+      let size : ℕ = h * rowBytes w in
+      let area : ℕ = h * w in
+      let es : i * size + size - i * size ≡ size = omega arith in
+      let room : (i + 1) * size ≤ length support = omega (arith, row-next i size, layer-room w h n size i (length support) refl ls (omega arith)) in
+      let roomr : (i + 1) * area ≤ length rings = omega (arith, row-next i area, ring-room w h n area i (length rings) refl lr li) in
+      λ ly lr' er ey u a.
+      let f : ℕ → Plane = λ k. packed w (take k (drop (i * size) part)) in
+      down-more w h st n q z part long i support (putMid (i * size) (i * size + size - i * size) support ys) rings (putMid (i * area) (i * area + area - i * area) rings rs) upper upper' above above' li D
+      (put-only size i support ys room ly) (put-only area i rings rs roomr lr')
+      (put-plane size i support ys room ly ∙ subst (λ (k : ℕ). ys ≡ planeBytes w h (pairSupport w h q (f k) (seen w st upper) (seen w st above))) es ey)
+      (put-plane area i rings rs roomr lr' ∙ subst (λ (k : ℕ). rs ≡ pairRings w h q (f k) (seen w st upper)) es er)
+      (subst (λ (k : ℕ). Drawn w h st (f k) upper') es u)
+      (subst (λ (k : ℕ). Drawn w h st (pairSupport w h q (f k) (seen w st upper) (seen w st above)) above') es a)
+
+  pub layer-done : (size area : ℕ) → size ≡ h * rowBytes w → area ≡ h * w → LayerDone size area
+  layer-done size area es ea = subst (λ (x : ℕ). LayerDone x area) (sym es) (subst (λ (y : ℕ). LayerDone (h * rowBytes w) y) (sym ea) layer-done-at)
