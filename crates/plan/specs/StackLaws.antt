@@ -228,3 +228,27 @@ module _ (w h st n q : ℕ) (z : Sizes w h st) (part : List ℕ) (long : length 
 
   pub layer-done : (size area : ℕ) → size ≡ h * rowBytes w → area ≡ h * w → LayerDone size area
   layer-done size area es ea = subst (λ (x : ℕ). LayerDone x area) (sym es) (subst (λ (y : ℕ). LayerDone (h * rowBytes w) y) (sym ea) layer-done-at)
+
+-- the top layer, worked on in its stretch
+module _ (w h n : ℕ) (part support ys : List ℕ) (ln : 0 < n) (ls : length support ≡ n * h * rowBytes w) where
+  abbrev TopDone : ℕ → Type 0
+  TopDone size =
+      length ys ≡ length (midOf ((n - 1) * size) ((n - 1) * size + size - (n - 1) * size) support)
+      → ys ≡ planeBytes w h (λ p. false)
+      → (plane (h * rowBytes w) (n - 1) (putMid ((n - 1) * size) ((n - 1) * size + size - (n - 1) * size) support ys) ≡ planeBytes w h (λ p. false))
+      × OnlyPlane (h * rowBytes w) (n - 1) (putMid ((n - 1) * size) ((n - 1) * size + size - (n - 1) * size) support ys) support
+
+  top-done-at : TopDone (h * rowBytes w)
+  top-done-at ly ey =
+      let size : ℕ = h * rowBytes w in
+      let room : (n - 1 + 1) * size ≤ length support = omega (arith, row-next (n - 1) size, layer-room w h n size (n - 1) (length support) refl ls (omega arith)) in
+      (put-plane size (n - 1) support ys room ly ∙ ey, put-only size (n - 1) support ys room ly)
+
+  pub top-done : (size : ℕ) → size ≡ h * rowBytes w → TopDone size
+  top-done size es = subst TopDone (sym es) top-done-at
+
+  pub top-part : (st size : ℕ) (upper' : List ℕ) → size ≡ h * rowBytes w → Drawn w h st (packed w (take ((n - 1) * size + size - (n - 1) * size) (drop ((n - 1) * size) part))) upper'
+      → Drawn w h st (packed w (plane (h * rowBytes w) (n - 1) part)) upper'
+  top-part st size upper' es d =
+      let k : (n - 1) * size + size - (n - 1) * size ≡ size = omega arith in
+      subst (λ (x : ℕ). Drawn w h st (packed w (take x (drop ((n - 1) * x) part))) upper') es (subst (λ (x : ℕ). Drawn w h st (packed w (take x (drop ((n - 1) * size) part))) upper') k d)

@@ -7,7 +7,7 @@ ghost use Rattle.rules.specs.Images.{rowBytes, paddingSet};
 ghost use Rattle.rules.specs.Planning.{plannedRings, plannedBytes};
 ghost use Rattle.laws.specs.Discs.{Halves};
 ghost use Rattle.image.specs.Scratch.{Sizes, seen, Ready, Drawn};
-ghost use Rattle.image.specs.Rows.{packed, planeBytes, Clean};
+ghost use Rattle.image.specs.Rows.{packed, planeBytes, Clean, plane, OnlyPlane};
 ghost use Rattle.plan.specs.Pairs.{pairRings, pairSupport};
 ghost use Rattle.plan.specs.Stacks.{Down};
 
@@ -217,4 +217,91 @@ fn layers(
             i,
         );
     }
+}
+
+// The top layer of a stack, in its stretch.
+fn top_at(
+    part: &[u8],
+    support: &mut [u8],
+    upper: &mut [u8],
+    above: &mut [u8],
+    w: usize,
+    h: usize,
+    n: usize,
+    st: usize,
+    size: usize,
+)
+    requires { ⌜ Sizes w h st ⌝ }
+    requires { ⌜ (size ≡ h * rowBytes w) × (0 < n) ⌝ }
+    requires { ⌜ (length (now part) ≡ n * h * rowBytes w) × (paddingSet w (n * h) (now part) ≡ false) × (length (now support) ≡ n * h * rowBytes w) ⌝ }
+    requires { ⌜ Ready w h st (now upper) × Ready w h st (now above) ⌝ }
+    ensures { λ _. ⌜ (plane (h * rowBytes w) (n - 1) (now (support .exit)) ≡ planeBytes w h (λ p. false)) × OnlyPlane (h * rowBytes w) (n - 1) (now (support .exit)) (now (support .entry)) ⌝ }
+    ensures { λ _. ⌜ Drawn w h st (packed w (plane (h * rowBytes w) (n - 1) (now (part .entry)))) (now (upper .exit)) × Drawn w h st (λ p. false) (now (above .exit)) ⌝ }
+{
+    let i = n - 1;
+    let a = i * size;
+    let e = a + size;
+    top(&part[a..e], &mut support[a..e], upper, above, w, h, st);
+}
+
+// The whole stack. The planes from upper to temp are scratch.
+pub fn stack(
+    part: &[u8],
+    support: &mut [u8],
+    rings: &mut [u16],
+    upper: &mut [u8],
+    above: &mut [u8],
+    lower: &mut [u8],
+    shadow: &mut [u8],
+    seed: &mut [u8],
+    excused: &mut [u8],
+    free: &mut [u8],
+    later: &mut [u8],
+    marks: &mut [u8],
+    temp: &mut [u8],
+    mask: &[u8],
+    half: &[usize],
+    w: usize,
+    h: usize,
+    n: usize,
+    st: usize,
+    q: usize,
+    size: usize,
+    area: usize,
+)
+    requires { ⌜ Sizes w h st ⌝ }
+    requires { ⌜ (size ≡ h * rowBytes w) × (area ≡ h * w) × (0 < n) ⌝ }
+    requires { ⌜ (length (now part) ≡ n * h * rowBytes w) × (paddingSet w (n * h) (now part) ≡ false) × (length (now support) ≡ n * h * rowBytes w) × (length (now rings) ≡ (n - 1) * (h * w)) ⌝ }
+    requires { ⌜ Ready w h st (now upper) × Ready w h st (now above) ⌝ }
+    requires { ⌜ Ready w h st (now lower) × Ready w h st (now shadow) × Ready w h st (now seed) × Ready w h st (now excused) × Ready w h st (now free) × Ready w h st (now later) × Ready w h st (now marks) × Ready w h st (now temp) ⌝ }
+    requires { ⌜ Drawn w h st (λ p. true) (now mask) ⌝ }
+    requires { ⌜ Halves q (now half) ⌝ }
+    ensures { λ _. ⌜ now (support .exit) ≡ plannedBytes w h n (λ k. q) (now (part .entry)) ⌝ }
+    ensures { λ _. ⌜ now (rings .exit) ≡ plannedRings w h n (λ k. q) (now (part .entry)) ⌝ }
+{
+    top_at(part, support, upper, above, w, h, n, st, size);
+    layers(
+        part,
+        support,
+        rings,
+        upper,
+        above,
+        lower,
+        shadow,
+        seed,
+        excused,
+        free,
+        later,
+        marks,
+        temp,
+        mask,
+        half,
+        w,
+        h,
+        n,
+        st,
+        q,
+        size,
+        area,
+    );
 }

@@ -3,12 +3,6 @@ use native.Mathlib.Omega.{arith}
 use borrow.Author.Needs.{needs}
 use Rattle.plan.proofs.stack.layer.Statement.{statement}
 use Rattle.plan.proofs.stack.layer.Tie as tie
-use Rattle.plan.proofs.stack.layer.Reads as reads
-use Rattle.plan.proofs.stack.layer.Lts as lts
-use Rattle.image.proofs.planes.copy.Reads as copy-reads
-use Rattle.image.proofs.rows.read_plane.Reads as read-plane-reads
-use Rattle.image.proofs.rows.write_plane.Reads as write-plane-reads
-use Rattle.plan.proofs.pair.pair.Reads as pair-reads
 use Rattle.image.specs.Planes.{scratch-same, scratch-seen, size-max}
 use Rattle.image.specs.Rows.{packed}
 use Rattle.image.specs.Scratch.{seen}
@@ -18,11 +12,9 @@ use mathlib.Core.Path.{_∙_}
 use Rattle.image.specs.Packed.{bytes-same}
 use Rattle.image.specs.WideningLaws.{scratch-copy}
 
--- src/stack.rt:61:5
 read-plane-requires : tie.Need-read-plane-requires
 read-plane-requires c κs = search needs
 
--- src/stack.rt:62:5
 pair-requires : tie.Need-pair-requires
 pair-requires c κs =
     let P = c .before .before .before .before .before .before .before .before .before .before .before .before .before .before .before .before .before .before .before .before .before .before .before .before .before .before .before .before .before .before .pre in
@@ -35,74 +27,57 @@ pair-requires c κs =
       ),
     )
 
--- src/stack.rt:81:5
 write-plane-requires : tie.Need-write-plane-requires
 write-plane-requires c κs =
     let P = c .before .before .before .before .before .before .before .before .before .before .before .before .before .before .before .before .before .before .before .before .before .before .before .before .before .before .before .before .before .before .before .before .before .before .before .before .before .before .before .before .before .before .before .before .before .before .before .before .before .before .before .pre in
     let S = c .before .before .before .before .before .before .before .before .before .before .before .before .before .before .before .before .before .before .before .before .pair .ensures .1 .0 in
     (P .0, (record { long = S .long; framed = S .is .rest }, P .1 .0 .1))
 
--- src/stack.rt:82:44
 add-copy : tie.Need-add-copy
 add-copy c = omega (arith, c .before .before .before .before .before .before .before .before .before .before .before .before .before .before .before .before .before .before .before .before .before .before .before .before .before .before .before .before .before .before .before .before .before .before .before .before .before .before .before .before .before .before .before .before .before .before .before .before .before .before .before .before .before .before .before .before .pre .0 .h-max)
 
--- src/stack.rt:82:43
 mul-copy : tie.Need-mul-copy
 mul-copy c = let A = c .before .before .before .before .before .before .before .before .before .before .before .before .before .before .before .before .before .before .before .before .before .before .before .before .before .before .before .before .before .before .before .before .before .before .before .before .before .before .before .before .before .before .before .before .before .before .before .before .before .before .before .before .before .before .before .before .args in omega (arith, size-max (A .w) (A .h) (A .st) (c .before .before .before .before .before .before .before .before .before .before .before .before .before .before .before .before .before .before .before .before .before .before .before .before .before .before .before .before .before .before .before .before .before .before .before .before .before .before .before .before .before .before .before .before .before .before .before .before .before .before .before .before .before .before .before .before .pre .0))
 
--- src/stack.rt:82:5
 copy-requires : tie.Need-copy-requires
 copy-requires c κs = let A = c .before .before .before .before .before .before .before .before .before .before .before .before .before .before .before .before .before .before .before .before .before .before .before .before .before .before .before .before .before .before .before .before .before .before .before .before .before .before .before .before .before .before .before .before .before .before .before .before .before .before .before .before .before .before .before .before .args in omega (arith, size-max (A .w) (A .h) (A .st) (c .before .before .before .before .before .before .before .before .before .before .before .before .before .before .before .before .before .before .before .before .before .before .before .before .before .before .before .before .before .before .before .before .before .before .before .before .before .before .before .before .before .before .before .before .before .before .before .before .before .before .before .before .before .before .before .before .pre .0), c .before .before .before .before .before .before .before .before .before .before .before .before .before .before .before .before .before .before .before .before .before .before .before .before .before .before .before .before .before .before .before .before .before .before .before .before .before .before .before .read-plane .ensures .long, c .before .before .before .before .before .before .before .before .before .before .before .before .before .before .before .before .before .before .before .before .before .before .before .before .before .before .before .before .before .before .before .before .before .before .before .before .before .before .before .before .before .before .before .before .before .before .before .before .before .before .before .before .before .before .before .before .pre .1 .1 .0 .0 .long)
 
--- src/stack.rt:29:1
 same-length : tie.Need-same-length
 same-length c = search needs
 
--- src/stack.rt:29:1
 same-length-2 : tie.Need-same-length-2
 same-length-2 c = search needs
 
--- src/stack.rt:29:1
 same-length-3 : tie.Need-same-length-3
 same-length-3 c = search needs
 
--- src/stack.rt:29:1
 same-length-4 : tie.Need-same-length-4
 same-length-4 c = search needs
 
--- src/stack.rt:29:1
 same-length-5 : tie.Need-same-length-5
 same-length-5 c = c .before .before .before .before .before .before .before .before .before .before .before .before .before .before .before .before .before .before .before .before .before .before .before .before .before .before .before .before .before .before .before .before .before .before .before .before .before .before .before .before .before .before .read-plane .kept .1 .0
 
--- src/stack.rt:29:1
 same-length-6 : tie.Need-same-length-6
 same-length-6 c = search needs
 
--- src/stack.rt:29:1
 same-length-7 : tie.Need-same-length-7
 same-length-7 c = search needs
 
--- src/stack.rt:29:1
 same-length-8 : tie.Need-same-length-8
 same-length-8 c = search needs
 
--- src/stack.rt:29:1
 same-length-9 : tie.Need-same-length-9
 same-length-9 c = search needs
 
--- src/stack.rt:29:1
 same-length-10 : tie.Need-same-length-10
 same-length-10 c = search needs
 
--- src/stack.rt:29:1
 same-length-11 : tie.Need-same-length-11
 same-length-11 c = search needs
 
--- src/stack.rt:29:1
 same-length-12 : tie.Need-same-length-12
 same-length-12 c = search needs
 
--- src/stack.rt:29:1
 returns : tie.Need-returns
 returns c =
     let A = c .before .before .before .before .before .before .before .before .before .before .before .before .before .before .before .before .before .before .before .before .before .before .before .before .before .before .before .before .before .before .before .before .before .before .before .before .before .before .before .before .before .before .before .before .before .before .before .before .before .before .before .before .before .before .before .before .before .before .before .args in

@@ -6,9 +6,6 @@ use native.Mathlib.Omega.{arith}
 use borrow.Author.Needs.{needs}
 use Rattle.plan.proofs.stack.layers.Statement.{statement}
 use Rattle.plan.proofs.stack.layers.Tie as tie
-use Rattle.plan.proofs.stack.layers.Reads as reads
-use Rattle.plan.proofs.stack.layers.Lts as lts
-use Rattle.plan.proofs.stack.layer_at.Reads as layer-at-reads
 use Rattle.plan.specs.Stacks.{Down}
 use Rattle.plan.specs.StackLaws.{down-end}
 use Rattle.image.specs.Scratch.{Ready}
@@ -24,19 +21,15 @@ Inv-loop part support₀ rings₀ upper₀ above₀ lower₀ shadow₀ seed₀ e
 abbrev μ-loop : tie.MeasureT-loop
 μ-loop part support₀ rings₀ upper₀ above₀ lower₀ shadow₀ seed₀ excused₀ free₀ later₀ marks₀ temp₀ mask half w h n st q size area i₀ support rings upper above lower shadow seed excused free later marks temp i = i
 
--- src/stack.rt:183:17
 sub-i : tie.Need-sub-i Inv-loop μ-loop
 sub-i c = omega (arith, c .before .before .before .before .before .before .before .before .before .before .before .before .before .before .before .pre .1 .0 .2)
 
--- src/stack.rt:184:5
 loop-holds : tie.Need-loop-holds Inv-loop μ-loop
 loop-holds c = let P = c .before .before .before .before .before .before .before .before .before .before .before .before .before .before .before .pre in (omega (arith, P .1 .0 .2), refl, refl, (refl, refl, refl, refl, refl, refl, refl, refl, refl, refl), P .1 .1 .1 .0, P .1 .1 .1 .1 .0)
 
--- src/stack.rt:185:9
 sub-i-2 : tie.Need-sub-i-2 Inv-loop μ-loop
 sub-i-2 c = omega (arith, c .loop-test .taken)
 
--- src/stack.rt:186:9
 layer-at-requires : tie.Need-layer-at-requires Inv-loop μ-loop
 layer-at-requires c κs =
     let A = c .before .before .before .before .before .before .before .before .before .before .before .before .before .before .before .before .before .before .before .before .before .before .before .before .before .before .before .before .before .args in
@@ -54,11 +47,9 @@ layer-at-requires c κs =
       ),
     )
 
--- src/stack.rt:184:5
 loop-less : tie.Need-loop-less Inv-loop μ-loop
 loop-less c = omega (arith, c .before .before .before .before .before .before .before .before .before .before .before .before .before .before .before .before .before .before .before .before .before .before .before .before .before .before .before .before .before .before .before .before .before .before .before .before .before .loop-test .taken)
 
--- src/stack.rt:184:5
 loop-again : tie.Need-loop-again Inv-loop μ-loop
 loop-again c =
     let I = c .before .before .before .before .before .before .before .before .before .before .before .before .before .before .before .before .before .before .before .before .before .before .before .before .before .before .before .before .before .before .before .before .before .before .before .before .before .before .loop .inv in
@@ -83,55 +74,42 @@ loop-again c =
       E .1,
     )
 
--- src/stack.rt:149:1
 same-length : tie.Need-same-length Inv-loop μ-loop
 same-length c = c .before .loop .inv .1
 
--- src/stack.rt:149:1
 same-length-2 : tie.Need-same-length-2 Inv-loop μ-loop
 same-length-2 c = c .before .loop .inv .2
 
--- src/stack.rt:149:1
 same-length-3 : tie.Need-same-length-3 Inv-loop μ-loop
 same-length-3 c = c .before .loop .inv .3 .0
 
--- src/stack.rt:149:1
 same-length-4 : tie.Need-same-length-4 Inv-loop μ-loop
 same-length-4 c = c .before .loop .inv .3 .1
 
--- src/stack.rt:149:1
 same-length-5 : tie.Need-same-length-5 Inv-loop μ-loop
 same-length-5 c = c .before .loop .inv .3 .2
 
--- src/stack.rt:149:1
 same-length-6 : tie.Need-same-length-6 Inv-loop μ-loop
 same-length-6 c = c .before .loop .inv .3 .3
 
--- src/stack.rt:149:1
 same-length-7 : tie.Need-same-length-7 Inv-loop μ-loop
 same-length-7 c = c .before .loop .inv .3 .4
 
--- src/stack.rt:149:1
 same-length-8 : tie.Need-same-length-8 Inv-loop μ-loop
 same-length-8 c = c .before .loop .inv .3 .5
 
--- src/stack.rt:149:1
 same-length-9 : tie.Need-same-length-9 Inv-loop μ-loop
 same-length-9 c = c .before .loop .inv .3 .6
 
--- src/stack.rt:149:1
 same-length-10 : tie.Need-same-length-10 Inv-loop μ-loop
 same-length-10 c = c .before .loop .inv .3 .7
 
--- src/stack.rt:149:1
 same-length-11 : tie.Need-same-length-11 Inv-loop μ-loop
 same-length-11 c = c .before .loop .inv .3 .8
 
--- src/stack.rt:149:1
 same-length-12 : tie.Need-same-length-12 Inv-loop μ-loop
 same-length-12 c = c .before .loop .inv .3 .9
 
--- src/stack.rt:149:1
 returns : tie.Need-returns Inv-loop μ-loop
 returns c =
     let A = c .before .before .before .before .before .before .before .before .before .before .before .before .before .before .before .before .before .args in

@@ -2,34 +2,24 @@ use native.Mathlib.Omega.{arith}
 use borrow.Author.Needs.{needs}
 use Rattle.plan.proofs.stack.top.Statement.{statement}
 use Rattle.plan.proofs.stack.top.Tie as tie
-use Rattle.plan.proofs.stack.top.Reads as reads
-use Rattle.plan.proofs.stack.top.Lts as lts
-use Rattle.image.proofs.planes.clear.Reads as clear-reads
-use Rattle.image.proofs.rows.read_plane.Reads as read-plane-reads
-use Rattle.image.proofs.rows.write_plane.Reads as write-plane-reads
 use Rattle.image.specs.Planes.{scratch-seen, cleared-plane, size-max}
 use mathlib.Core.Path.{_∙_}
 use Rattle.image.specs.Packed.{bytes-same}
 use Rattle.image.specs.Scratch.{seen}
 use mathlib.Core.Bool.{false}
 
--- src/stack.rt:22:5
 read-plane-requires : tie.Need-read-plane-requires
 read-plane-requires c κs = search needs
 
--- src/stack.rt:23:34
 add-clear : tie.Need-add-clear
 add-clear c = search needs
 
--- src/stack.rt:23:33
 mul-clear : tie.Need-mul-clear
 mul-clear c = let A = c .before .before .before .before .before .before .before .before .before .args in omega (arith, size-max (A .w) (A .h) (A .st) (c .before .before .before .before .before .before .before .before .before .pre .0))
 
--- src/stack.rt:23:5
 clear-requires : tie.Need-clear-requires
 clear-requires c κs = let A = c .before .before .before .before .before .before .before .before .before .args in omega (arith, size-max (A .w) (A .h) (A .st) (c .before .before .before .before .before .before .before .before .before .pre .0), c .before .before .before .before .before .before .before .before .before .pre .1 .1 .2 .long)
 
--- src/stack.rt:24:5
 write-plane-requires : tie.Need-write-plane-requires
 write-plane-requires c κs =
     let A = c .before .before .before .before .before .before .before .before .before .before .before .before .before .before .args in
@@ -38,19 +28,15 @@ write-plane-requires c κs =
     let blank = cleared-plane (A .w) (A .h) (A .st) (P .0) (C .last .0) (A .above .now) (C .ensures) in
     (P .0, (record { long = omega (arith, P .1 .1 .2 .long, C .kept .0); framed = blank .rest }, P .1 .1 .0))
 
--- src/stack.rt:15:1
 same-length : tie.Need-same-length
 same-length c = search needs
 
--- src/stack.rt:15:1
 same-length-2 : tie.Need-same-length-2
 same-length-2 c = search needs
 
--- src/stack.rt:15:1
 same-length-3 : tie.Need-same-length-3
 same-length-3 c = search needs
 
--- src/stack.rt:15:1
 returns : tie.Need-returns
 returns c =
     let A = c .before .before .before .before .before .before .before .before .before .before .before .before .before .before .before .before .before .args in
