@@ -1,0 +1,67 @@
+// The near plane: a plane widened column by column and joined row distance by row distance.
+ghost use mathlib.Core.Path.{_≡_};
+ghost use mathlib.Core.Bool.{Bool, true};
+ghost use Prim.Native.Nat.{ℕ, min, _+_, _≤_};
+ghost use lib.ListN.{length};
+ghost use Rattle.rules.specs.Planning.{near};
+ghost use Rattle.laws.specs.Discs.{Halves};
+ghost use Rattle.image.specs.Scratch.{Sizes, Framed, Scratch, seen, Ready, Drawn};
+ghost use Rattle.image.specs.Widening.{widened};
+
+fn min2(a: usize, b: usize) -> usize
+    ensures { λ r. ⌜ r ≡ min a b ⌝ }
+{
+    if a < b { a } else { b }
+}
+
+// The plane one column wider to each side. temp is scratch.
+fn wider(wide: &mut [u8], temp: &mut [u8], mask: &[u8], w: usize, h: usize, st: usize)
+    requires { ⌜ Sizes w h st ⌝ }
+    requires { ⌜ Drawn w h st (λ p. true) (now mask) ⌝ }
+    requires { ⌜ Ready w h st (now wide) × Ready w h st (now temp) ⌝ }
+    ensures { λ _. ⌜ ((k : ℕ) → (f : ℕ → Bool) → Scratch w h st (widened w k f) (now (wide .entry)) → Scratch w h st (widened w (k + 1) f) (now (wide .exit))) ⌝ }
+    ensures { λ _. ⌜ Framed w h st (now (temp .exit)) ⌝ }
+{
+    let e = (h + 1) * st;
+    crate::planes::widen(wide, mask, temp, st, e);
+    crate::planes::copy(temp, wide, st, e);
+}
+
+// The pixels near to low. half has the half-widths of the disc; wide and temp are scratch.
+pub fn near_plane(
+    low: &[u8],
+    out: &mut [u8],
+    wide: &mut [u8],
+    temp: &mut [u8],
+    mask: &[u8],
+    half: &[usize],
+    w: usize,
+    h: usize,
+    st: usize,
+    q: usize,
+)
+    requires { ⌜ Sizes w h st ⌝ }
+    requires { ⌜ Drawn w h st (λ p. true) (now mask) ⌝ }
+    requires { ⌜ Halves q (now half) ⌝ }
+    requires { ⌜ Ready w h st (now low) × Ready w h st (now out) × Ready w h st (now wide) × Ready w h st (now temp) ⌝ }
+    ensures { λ _. ⌜ Drawn w h st (near w h q (seen w st (now (low .entry)))) (now (out .exit)) ⌝ }
+    ensures { λ _. ⌜ Ready w h st (now (wide .exit)) × Ready w h st (now (temp .exit)) ⌝ }
+{
+    let n = (h + 2) * st;
+    let e = (h + 1) * st;
+    crate::planes::clear(out, n);
+    crate::planes::copy(low, wide, st, e);
+    let mut wid: usize = 0;
+    let mut left = min2(half[0] + 1, h);
+    while 0 < left {
+        left -= 1;
+        let want = half[left];
+        while wid < want {
+            wider(wide, temp, mask, w, h, st);
+            wid += 1;
+        }
+        let by = left * st;
+        crate::planes::or_up(out, wide, by, st, e - by);
+        crate::planes::or_down(out, wide, by, st + by, e);
+    }
+}

@@ -1,0 +1,6 @@
+-- What the contracts cite.
+pub mod Pairs
+pub mod Stacks
+-- Laws about it.
+pub mod PairLaws
+pub mod StackLaws

@@ -1,0 +1,24 @@
+-- One pair of layers: its rings, and the support of its lower layer.
+use mathlib.Core.Bool.{Bool, not, _&&_, _||_}
+use mathlib.Core.List.{List}
+use Prim.Native.Nat.{ℕ, _*_}
+use lib.Dec.{ltb}
+use lib.ListN.{getD}
+use Rattle.rules.specs.Images.{Plane}
+use Rattle.rules.specs.Planning.{shadow, near, seeds, reached, touch, grown}
+
+-- the pixels of a shadow that are near
+unfoldable pub nearIn : ℕ → ℕ → ℕ → Plane → Plane → Plane
+nearIn w h q low sh p = sh p && near w h q low p
+
+-- the rings of the layers `low` and `up`
+unfoldable pub pairRings : ℕ → ℕ → ℕ → Plane → Plane → List ℕ
+pairRings w h q low up = grown (h * w) (touch w) (reached w h q low up) (seeds low up) (h * w)
+
+-- "S(i) = shadow pixels not excused, with S(i+1), without P(i)", bit by bit
+abbrev pub keepBit : Bool → Bool → Bool → Bool → Bool
+keepBit sh ex low above = (sh && not ex || above) && not low
+
+-- the support of the layer `low`, where that of the layer `up` is `above`
+unfoldable pub pairSupport : ℕ → ℕ → ℕ → Plane → Plane → Plane → Plane
+pairSupport w h q low up above p = keepBit (shadow low up p) (ltb 0 (getD (pairRings w h q low up) p 0)) (low p) (above p)
