@@ -1,11 +1,10 @@
 -- What the answer of reading says of a file, and the stretches that it tells.
-use mathlib.Core.Path.{_≡_, refl, sym, ap, _∙_}
+use mathlib.Core.Path.{_≡_, sym, ap, _∙_}
 use mathlib.Core.Bool.{Bool, true, false, cond}
 use mathlib.Core.List.{List, _++_}
-use Prim.Native.Nat.{ℕ, zero, suc, _+_, _-_, _*_, _≤_}
+use Prim.Native.Nat.{ℕ, _+_, _-_, _*_, _≤_}
 use native.Mathlib.Omega.{arith}
 use lib.ListN.{length, take, drop}
-use Rattle.rules.specs.Tools.{answer}
 use Rattle.rules.specs.Images.{rowBytes, stackBytes}
 use Rattle.rules.specs.Jobs.{headEnd, partEnd, supportEnd, settingsIn, storedIn, layoutOf}
 use Rattle.rules.specs.Calls.{readRefusal, readAnswer}
@@ -13,6 +12,7 @@ use Rattle.rules.specs.declared.Layout.{Layout}
 use Rattle.rules.specs.declared.ReadJob.{ReadJob}
 use Rattle.rules.specs.declared.ReadJob.the-variants.{Job, Refused}
 use Rattle.laws.specs.Refusals.{answer-fine, answer-refused}
+use Rattle.laws.specs.Demand1.{job-read, job-refused}
 use Rattle.kitegimlet.specs.Packed.{told, toldIn, stretch, partStretch, supportStretch}
 
 -- a section is as long as what lies between its offset and the next count
@@ -25,21 +25,11 @@ unfolding layoutOf supportEnd
 support-length f = omega arith
 
 module _ (f : List ℕ) (r : ReadJob) (is : r ≡ readAnswer f) where
-  pub is-job : (l : Layout) → r ≡ Job l → (readRefusal f ≡ 0) × (l ≡ layoutOf f)
-  unfolding readAnswer
-  is-job l e = go (readRefusal f) refl (sym e ∙ is)
-    where
-      go : (k : ℕ) → readRefusal f ≡ k → Job l ≡ answer k (Job (layoutOf f)) Refused → (readRefusal f ≡ 0) × (l ≡ layoutOf f)
-      go zero z y = (z, cc)
-      go (suc k) z y = absurd (let x : _≡_ {A = ℕ} 0 1 = cc in omega arith)
+  is-job : (l : Layout) → r ≡ Job l → (readRefusal f ≡ 0) × (l ≡ layoutOf f)
+  is-job l e = job-read f r l is e
 
-  pub is-refused : (k : ℕ) → r ≡ Refused k → (k ≡ readRefusal f) × (readRefusal f ≡ 0 → ⊥)
-  unfolding readAnswer
-  is-refused k e = go (readRefusal f) refl (sym e ∙ is)
-    where
-      go : (j : ℕ) → readRefusal f ≡ j → Refused k ≡ answer j (Job (layoutOf f)) Refused → (k ≡ readRefusal f) × (readRefusal f ≡ 0 → ⊥)
-      go zero z y = absurd (let x : _≡_ {A = ℕ} 0 1 = cc in omega arith)
-      go (suc j) z y = let x : k ≡ suc j = cc in (x ∙ sym z, λ n. omega arith)
+  is-refused : (k : ℕ) → r ≡ Refused k → (k ≡ readRefusal f) × (readRefusal f ≡ 0 → ⊥)
+  is-refused k e = job-refused f r k is e
 
   -- reading: all told, or the number and nothing told
   pub read-told : (l : Layout) (room now : List ℕ) → r ≡ Job l → now ≡ take (length room) (told l) ++ drop 10 room → (0 ≡ readRefusal f) × (now ≡ toldIn f room)

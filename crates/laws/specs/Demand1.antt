@@ -26,6 +26,8 @@ use Rattle.rules.specs.declared.Judged.{Judged}
 use Rattle.rules.specs.declared.Judged.the-variants.{Accepted, Refused as NotJudged, RefusedAt}
 use Rattle.rules.specs.declared.Reached.the-variants.{By, Refused as NotReached}
 use Rattle.rules.specs.declared.Planned.the-variants.{Done, Refused as NotPlanned}
+use Rattle.rules.specs.declared.Layout.{Layout}
+use Rattle.rules.specs.declared.ReadJob.{ReadJob}
 use Rattle.rules.specs.declared.ReadJob.the-variants.{Job as IsJob, Refused as NotRead}
 use Rattle.rules.specs.declared.CopiedRings.the-variants.{Copied, Refused as NotCopied}
 use Rattle.rules.specs.declared.WrittenJob.the-variants.{Length, Refused as NotWritten}
@@ -77,6 +79,23 @@ reach-answers p t e = ap saysReached (answer-fine (refusal (reachCases p t)) (By
 pub read-answers : (f : List ℕ) → readRefusal f ≡ 0 → readAnswer f ≡ IsJob (layoutOf f)
 unfolding readAnswer
 read-answers f e = answer-fine (readRefusal f) (IsJob (layoutOf f)) NotRead e
+
+-- what an answer of reading says of the file
+pub job-read : (f : List ℕ) (r : ReadJob) (l : Layout) → r ≡ readAnswer f → r ≡ IsJob l → (readRefusal f ≡ 0) × (l ≡ layoutOf f)
+unfolding readAnswer
+job-read f r l is e = go (readRefusal f) refl (sym e ∙ is)
+  where
+    go : (k : ℕ) → readRefusal f ≡ k → IsJob l ≡ answer k (IsJob (layoutOf f)) NotRead → (readRefusal f ≡ 0) × (l ≡ layoutOf f)
+    go zero z y = (z, cc)
+    go (suc k) z y = absurd (let x : _≡_ {A = ℕ} 0 1 = cc in omega arith)
+
+pub job-refused : (f : List ℕ) (r : ReadJob) (k : ℕ) → r ≡ readAnswer f → r ≡ NotRead k → (k ≡ readRefusal f) × (readRefusal f ≡ 0 → ⊥)
+unfolding readAnswer
+job-refused f r k is e = go (readRefusal f) refl (sym e ∙ is)
+  where
+    go : (j : ℕ) → readRefusal f ≡ j → NotRead k ≡ answer j (IsJob (layoutOf f)) NotRead → (k ≡ readRefusal f) × (readRefusal f ≡ 0 → ⊥)
+    go zero z y = absurd (let x : _≡_ {A = ℕ} 0 1 = cc in omega arith)
+    go (suc j) z y = let x : k ≡ suc j = cc in (x ∙ sym z, λ n. omega arith)
 
 pub write-answers : (j : Job) (room : ℕ) → writeRefusal j room ≡ 0 → saysWritten (writeAnswer j room) ≡ 0 ∷ fileLength j ∷ []
 unfolding writeAnswer

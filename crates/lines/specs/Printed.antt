@@ -7,7 +7,7 @@ use native.Mathlib.Omega.{arith}
 use lib.Dec.{ltb}
 use lib.ListN.{length, length-append, length-take, length-drop}
 use borrow.Author.Tests.{ltb-true, ltb-false}
-use Rattle.rules.specs.Tools.{refusal, answer}
+use Rattle.rules.specs.Tools.{refusal}
 use Rattle.rules.specs.Images.{rowsOf, stackBytes, ringsIn, paddingSet}
 use Rattle.rules.specs.Reach.{boundOf}
 use Rattle.rules.specs.Planning.{plannedRings, plannedBytes}
@@ -20,6 +20,7 @@ use Rattle.rules.specs.declared.ReadJob.{ReadJob}
 use Rattle.rules.specs.declared.ReadJob.the-variants.{Job, Refused}
 use Rattle.laws.specs.Limits.{Ranged, ranged, stack-most}
 use Rattle.laws.specs.Refusals.{answer-fine}
+use Rattle.laws.specs.Demand1.{job-read, job-refused}
 use Rattle.laws.specs.Demand2.{plan-fills}
 use Rattle.laws.specs.Demand3.{plannedBytes-length, plannedRings-length}
 use Rattle.laws.specs.JobFiles.{Accepted, accepted-exactly}
@@ -84,12 +85,7 @@ part-fits f small = simp (length-take, length-drop) (omega arith)
 -- a job that was read
 module _ (f : List ℕ) (small : length f ≤ 65536) (r : ReadJob) (is : r ≡ readAnswer f) where
   job-is : (l : Layout) → r ≡ Job l → (readRefusal f ≡ 0) × (l ≡ layoutOf f)
-  unfolding readAnswer
-  job-is l e = go (readRefusal f) refl (sym e ∙ is)
-    where
-      go : (k : ℕ) → readRefusal f ≡ k → Job l ≡ answer k (Job (layoutOf f)) Refused → (readRefusal f ≡ 0) × (l ≡ layoutOf f)
-      go zero z y = (z, cc)
-      go (suc k) z y = absurd (let x : _≡_ {A = ℕ} 0 1 = cc in omega arith)
+  job-is l e = job-read f r l is e
 
   job-settings : (l : Layout) → r ≡ Job l → l .settings ≡ settingsIn f
   unfolding layoutOf
@@ -120,9 +116,9 @@ module _ (f : List ℕ) (small : length f ≤ 65536) (r : ReadJob) (is : r ≡ r
       by-room false h z = sym (report-prints f small z (ltb-false 32768 _ h))
 
   pub refused-report : (k j n : ℕ) (now was : List ℕ) → r ≡ Refused k → j ≡ k → Printed (refusedLine j) n now was → Printed (reportOf f) n now was
-  unfolding readAnswer readRefusal
-  refused-report k j n now was e h t = go (readRefusal f) refl (sym e ∙ is)
+  unfolding readRefusal
+  refused-report k j n now was e h t = go j (h ∙ job-refused f r k is e .0) (job-refused f r k is e .1) t
     where
-      go : (x : ℕ) → readRefusal f ≡ x → Refused k ≡ answer x (Job (layoutOf f)) Refused → Printed (reportOf f) n now was
-      go zero z y = absurd (let x : _≡_ {A = ℕ} 0 1 = cc in omega arith)
-      go (suc x) z y = let q : k ≡ suc x = cc in subst (λ (l : List ℕ). Printed l n now was) (ap refusedLine (h ∙ q) ∙ sym (report-refused f x small z)) t
+      go : (x : ℕ) → x ≡ refusal (readCases f) → (refusal (readCases f) ≡ 0 → ⊥) → Printed (refusedLine x) n now was → Printed (reportOf f) n now was
+      go zero z nz u = absurd (nz (sym z))
+      go (suc x) z nz u = subst (λ (l : List ℕ). Printed l n now was) (sym (report-refused f x small (sym z))) u
