@@ -5,11 +5,14 @@ use mathlib.Core.List.{List}
 use Prim.Native.Nat.{ℕ, suc, _+_, _*_, _/_, _%_, _<_, _≤_}
 use native.Mathlib.Nat.{mul-le-mul, div-lt-iff-lt-mul, mod-lt, div-add-mod', add-mul, one-mul, mul-le-mul-right, suc-mul}
 use native.Mathlib.Omega.{arith}
+use native.Mathlib.Decide.{decLt}
+use lib.ListN.{length, getD, replicate, length-replicate, getD-replicate, List·getD-eq-default}
 use lib.Arith.{digits-div, digits-mod, digits-lt}
-use Rattle.rules.specs.Images.{Plane, rowBytes}
+use Rattle.rules.specs.Images.{bitAt, Plane, rowBytes}
 use Rattle.laws.specs.Tests.{split, bool-eq, clash}
 use Rattle.image.specs.Loops.{Bits2, Within}
-use Rattle.image.specs.Scratch.{bitOf, spot, Sizes, Framed, Scratch, seen}
+use Rattle.image.specs.Scratch.{Ready, bitOf, spot, Sizes, Framed, Scratch, seen}
+use Rattle.image.specs.Bits.{zero-bit}
 
 pub row-next : (r w : ℕ) → (r + 1) * w ≡ r * w + w
 row-next r w = add-mul r 1 w ∙ ap (λ (x : ℕ). r * w + x) (one-mul w)
@@ -101,3 +104,14 @@ module _ (w h st : ℕ) (z : Sizes w h st) where
 -- a plane with no bit set
 pub zero-framed : (w h st : ℕ) (l : List ℕ) → ((j : ℕ) → j < (h + 2) * st * 8 → bitOf l j ≡ false) → Framed w h st l
 zero-framed w h st l e j lj u = clash u (e j lj)
+
+-- zeros are room for a plane
+pub zero-ready : (w h st : ℕ) → Ready w h st (replicate 8704 0)
+unfolding bitOf
+zero-ready w h st = record { long = omega (arith, length-replicate {A = ℕ} 8704 0); framed = zero-framed w h st (replicate 8704 0) (λ j lj. ap (λ (x : ℕ). bitAt x (j % 8)) (zero (j / 8)) ∙ zero-bit (j % 8)) }
+  where
+    zero : (i : ℕ) → getD {A = ℕ} (replicate 8704 0) i 0 ≡ 0
+    zero i = elim (decLt i 8704) [
+      | yes l ↦ getD-replicate 8704 i 0 0 l
+      | no l ↦ List·getD-eq-default (replicate 8704 0) 0 {n = i} (omega (arith, length-replicate {A = ℕ} 8704 0))
+    ]

@@ -10,7 +10,8 @@ ghost use Rattle.rules.specs.Tools.{refusal};
 ghost use Rattle.rules.specs.Images as images;
 ghost use Rattle.rules.specs.Images.{rowBytes, paddingSet};
 ghost use Rattle.rules.specs.Reach as rule;
-ghost use Rattle.rules.specs.Calls.{reachCases, reachAnswer, settingCases};
+ghost use Rattle.laws.specs.Limits.{Ranged};
+ghost use Rattle.rules.specs.Calls.{reachCases, reachAnswer, settingCases, lengthCases};
 
 fn within(low: usize, high: usize, x: usize) -> bool
     ensures { λ r. ⌜ r ≡ images.within low high x ⌝ }
@@ -122,4 +123,22 @@ pub fn padding_set(s: &[u8], w: usize, k: usize) -> bool
         row += 1;
     }
     false
+}
+
+// The refusals 4, 5 and 6 by the lengths of part, support and rings, 0 for none.
+pub fn length_refusal(s: Settings, part: usize, support: usize, rings: usize) -> u8
+    requires { ⌜ Ranged s ⌝ }
+    ensures { λ r. ⌜ r ≡ refusal (lengthCases s part support rings) ⌝ }
+{
+    let bytes = s.n * s.h * row_bytes(s.w);
+    if part != bytes {
+        return 4;
+    }
+    if support != bytes {
+        return 5;
+    }
+    if rings != (s.n - 1) * (s.h * s.w) {
+        return 6;
+    }
+    0
 }

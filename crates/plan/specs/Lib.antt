@@ -4,3 +4,4 @@ pub mod Stacks
 -- Laws about it.
 pub mod PairLaws
 pub mod StackLaws
+pub mod CallLaws

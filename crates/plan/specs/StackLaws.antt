@@ -1,30 +1,30 @@
 -- Laws of planning a stack: where it begins, one layer more, and where it ends.
-use mathlib.Core.Path.{_≡_, refl, sym, ap, ap₂, subst, _∙_}
+use mathlib.Core.Path.{_≡_, refl, sym, ap, subst, _∙_}
 use mathlib.Core.Bool.{Bool, true, false, not, _&&_, _||_}
 use mathlib.Core.List.{List}
-use Prim.Native.Nat.{ℕ, zero, suc, _+_, _-_, _*_, _≤_, _<_}
-use native.Mathlib.Nat.{mul-assoc, suc-mul, zero-mul, mul-le-mul-right, add-mul, one-mul}
+use Prim.Native.Nat.{ℕ, suc, _+_, _-_, _*_, _≤_, _<_}
+use native.Mathlib.Nat.{mul-assoc, zero-mul}
 use native.Mathlib.Numerals.{add-one}
 use native.Mathlib.Decide.{decLt}
 use native.Mathlib.Omega.{arith}
-use lib.Dec.{ltb, eqb}
-use lib.ListN.{length, getD, take, drop, length-take, length-drop, List·getD-eq-default}
-use lib.Seq.{ext-getD, getD-drop}
 use borrow.Rule.Slice.PartMut.{midOf, putMid}
-use Rattle.rules.specs.Tools.{joinedUp}
+use lib.Dec.{ltb, eqb}
+use lib.ListN.{length, getD, take, drop, List·getD-eq-default}
+use lib.Seq.{ext-getD, getD-drop}
 use Rattle.rules.specs.Images.{paddingSet, Plane, Stack, rowBytes, pixel, bytesOf, ringAt}
 use Rattle.rules.specs.Planning.{shadow, ringPlane, rings, excused, planned, supportUnder, topOf, empty, plannedRings, plannedBytes}
-use Rattle.laws.specs.Tests.{length-each}
+use Rattle.rules.specs.Tools.{joinedUp}
 use Rattle.laws.specs.Growing.{length-grown}
 use Rattle.laws.specs.Soundness.{getD-joined, rings-length, not-excused, planned-step}
-use Rattle.image.specs.Scratch.{Sizes, Scratch, seen, Drawn}
-use Rattle.image.specs.Rows.{Clean, packed, planeBytes, plane, OnlyPlane}
-use Rattle.image.specs.Planes.{row-fits, row-next, scratch-same, scratch-seen}
+use Rattle.laws.specs.Tests.{length-each}
 use Rattle.image.specs.Packed.{plane-clean, plane-at, plane-long, plane-pixel, stack-plane, bytes-same}
-use Rattle.plan.specs.Pairs.{pairRings, keepBit, pairSupport}
-use Rattle.plan.specs.PairLaws.{rings-same, support-same}
-use Rattle.plan.specs.Stacks.{From, plannedStack, Down}
+use Rattle.image.specs.Planes.{row-fits, row-next, scratch-same, scratch-seen}
+use Rattle.image.specs.Rows.{Clean, packed, planeBytes, plane, OnlyPlane}
+use Rattle.image.specs.Scratch.{Sizes, seen, Drawn}
 use Rattle.image.specs.Stretches.{put-plane, put-only}
+use Rattle.plan.specs.PairLaws.{rings-same, support-same}
+use Rattle.plan.specs.Pairs.{pairRings, pairSupport}
+use Rattle.plan.specs.Stacks.{From, plannedStack, Down}
 
 -- Lists that agree from some place on -----------------------------------------------------------------------------------
 

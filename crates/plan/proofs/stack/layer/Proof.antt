@@ -1,16 +1,15 @@
-use mathlib.Core.Path.{refl}
+use mathlib.Core.Path.{refl, _∙_}
 use native.Mathlib.Omega.{arith}
 use borrow.Author.Needs.{needs}
-use Rattle.plan.proofs.stack.layer.Statement.{statement}
-use Rattle.plan.proofs.stack.layer.Tie as tie
+use Rattle.image.specs.Packed.{bytes-same}
 use Rattle.image.specs.Planes.{scratch-same, scratch-seen, size-max}
 use Rattle.image.specs.Rows.{packed}
 use Rattle.image.specs.Scratch.{seen}
+use Rattle.image.specs.WideningLaws.{scratch-copy}
 use Rattle.plan.specs.PairLaws.{rings-same, support-same}
 use Rattle.plan.specs.Pairs.{pairSupport}
-use mathlib.Core.Path.{_∙_}
-use Rattle.image.specs.Packed.{bytes-same}
-use Rattle.image.specs.WideningLaws.{scratch-copy}
+use Rattle.plan.proofs.stack.layer.Statement.{statement}
+use Rattle.plan.proofs.stack.layer.Tie as tie
 
 read-plane-requires : tie.Need-read-plane-requires
 read-plane-requires c κs = search needs

@@ -1,11 +1,11 @@
-use borrow.Rule.Slice.PartMut.{same-len-mid}
+use Prim.Native.Nat.{_-_, _+_, _*_, _<_}
 use native.Mathlib.Omega.{arith}
+use borrow.Rule.Slice.PartMut.{same-len-mid}
 use borrow.Author.Needs.{needs}
+use lib.ListN.{length}
+use Rattle.plan.specs.StackLaws.{lent-rings, lent-support, lent-part, layer-done, ring-room, layer-room}
 use Rattle.plan.proofs.stack.layer_at.Statement.{statement}
 use Rattle.plan.proofs.stack.layer_at.Tie as tie
-use Rattle.plan.specs.StackLaws.{lent-rings, lent-support, lent-part, layer-done, ring-room, layer-room}
-use lib.ListN.{length}
-use Prim.Native.Nat.{_-_, _+_, _*_, _<_}
 
 mul-a : tie.Need-mul-a
 mul-a c = let A = c .before .before .before .before .before .before .before .before .before .before .before .before .before .before .before .args in let P = c .before .before .before .before .before .before .before .before .before .before .before .before .before .before .before .pre in omega (arith, layer-room (A .w) (A .h) (A .n) (A .size) (A .i) (length (A .part .now)) (P .1 .0 .0) (P .1 .1 .0 .0) (omega (arith, P .1 .0 .2)))

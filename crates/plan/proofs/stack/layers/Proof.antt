@@ -1,14 +1,12 @@
-use mathlib.Core.Path.{_≡_, refl, sym, ap, subst, _∙_}
-use mathlib.Core.List.{List}
-use Prim.Native.Nat.{ℕ, suc, _+_, _-_, _*_, _<_, _≤_}
-use lib.ListN.{length}
+use mathlib.Core.Path.{_≡_, refl, subst, _∙_}
+use Prim.Native.Nat.{ℕ, _+_, _-_, _<_}
 use native.Mathlib.Omega.{arith}
-use borrow.Author.Needs.{needs}
+use lib.ListN.{length}
+use Rattle.image.specs.Scratch.{Ready}
+use Rattle.plan.specs.StackLaws.{down-end}
+use Rattle.plan.specs.Stacks.{Down}
 use Rattle.plan.proofs.stack.layers.Statement.{statement}
 use Rattle.plan.proofs.stack.layers.Tie as tie
-use Rattle.plan.specs.Stacks.{Down}
-use Rattle.plan.specs.StackLaws.{down-end}
-use Rattle.image.specs.Scratch.{Ready}
 
 abbrev Inv-loop : tie.InvT-loop
 Inv-loop part support₀ rings₀ upper₀ above₀ lower₀ shadow₀ seed₀ excused₀ free₀ later₀ marks₀ temp₀ mask half w h n st q size area i₀ support rings upper above lower shadow seed excused free later marks temp i =

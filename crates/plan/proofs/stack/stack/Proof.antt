@@ -1,9 +1,8 @@
-use native.Mathlib.Omega.{arith}
+use mathlib.Core.Path.{_∙_}
 use borrow.Author.Needs.{needs}
+use Rattle.plan.specs.StackLaws.{down-start}
 use Rattle.plan.proofs.stack.stack.Statement.{statement}
 use Rattle.plan.proofs.stack.stack.Tie as tie
-use mathlib.Core.Path.{_∙_}
-use Rattle.plan.specs.StackLaws.{down-start}
 
 top-at-requires : tie.Need-top-at-requires
 top-at-requires c κs =

@@ -1,12 +1,12 @@
+use mathlib.Core.Path.{_∙_}
+use mathlib.Core.Bool.{false}
 use native.Mathlib.Omega.{arith}
 use borrow.Author.Needs.{needs}
+use Rattle.image.specs.Packed.{bytes-same}
+use Rattle.image.specs.Planes.{scratch-seen, cleared-plane, size-max}
+use Rattle.image.specs.Scratch.{seen}
 use Rattle.plan.proofs.stack.top.Statement.{statement}
 use Rattle.plan.proofs.stack.top.Tie as tie
-use Rattle.image.specs.Planes.{scratch-seen, cleared-plane, size-max}
-use mathlib.Core.Path.{_∙_}
-use Rattle.image.specs.Packed.{bytes-same}
-use Rattle.image.specs.Scratch.{seen}
-use mathlib.Core.Bool.{false}
 
 read-plane-requires : tie.Need-read-plane-requires
 read-plane-requires c κs = search needs

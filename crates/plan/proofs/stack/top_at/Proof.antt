@@ -1,10 +1,10 @@
+use Prim.Native.Nat.{_<_, _-_}
 use native.Mathlib.Omega.{arith}
 use borrow.Author.Needs.{needs}
+use lib.ListN.{length}
+use Rattle.plan.specs.StackLaws.{lent-support, lent-part, top-part, top-done, layer-room}
 use Rattle.plan.proofs.stack.top_at.Statement.{statement}
 use Rattle.plan.proofs.stack.top_at.Tie as tie
-use Rattle.plan.specs.StackLaws.{lent-support, lent-part, top-part, top-done, layer-room}
-use Prim.Native.Nat.{_<_, _-_}
-use lib.ListN.{length}
 
 sub-i : tie.Need-sub-i
 sub-i c = search needs
