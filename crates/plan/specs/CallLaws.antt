@@ -14,6 +14,7 @@ use Rattle.rules.specs.Planning.{plannedRings, plannedBytes}
 use Rattle.rules.specs.Reach.{reachOf, square, boundOf}
 use Rattle.rules.specs.Tools.{Case, _when_, refusal}
 use Rattle.rules.specs.declared.Pixels.{Pixels}
+use Rattle.rules.specs.declared.Planned.the-variants.{Done, Refused}
 use Rattle.rules.specs.declared.Settings.{Settings}
 use Rattle.laws.specs.Limits.{Ranged, ranged}
 use Rattle.laws.specs.Refusals.{numbered, orElse, else-none, else-some, else-both, refusal-append, case-out, answer-fine, answer-refused}
