@@ -5,10 +5,12 @@ use job::read;
 use job::write;
 use judge::judge;
 use limits::reach;
+use plan::plan;
 use rules::CopiedRings;
 use rules::Judged;
 use rules::Layout;
 use rules::Micrometres;
+use rules::Planned;
 use rules::Reached;
 use rules::ReadJob;
 use rules::Settings;
@@ -19,9 +21,9 @@ ghost use mathlib.Core.List.{_++_};
 ghost use Prim.Native.Nat.{_+_, _-_, _*_, _%_, _<_, _≤_};
 ghost use lib.ListN.{length, take, drop};
 ghost use Rattle.rules.specs.Tools.{bit};
-ghost use Rattle.rules.specs.Calls.{reachAnswer, judgeAnswer, readRefusal, readAnswer, copyAnswer, copyRings, writeAnswer, writeTo};
+ghost use Rattle.rules.specs.Calls.{reachAnswer, planAnswer, planSupport, planRings, judgeAnswer, readRefusal, readAnswer, copyAnswer, copyRings, writeAnswer, writeTo};
 ghost use Rattle.kitegimlet.specs.Packed as packed;
-ghost use Rattle.kitegimlet.specs.Packed.{um, settingsOf, jobOf, packReached, packJudged, packCopied, packWritten, told, toldIn, partStretch, supportStretch};
+ghost use Rattle.kitegimlet.specs.Packed.{um, settingsOf, jobOf, packReached, packPlanned, packJudged, packCopied, packWritten, told, toldIn, partStretch, supportStretch};
 
 fn above(v: usize) -> usize
     ensures { λ r. ⌜ r ≡ packed.above v ⌝ }
@@ -43,6 +45,15 @@ fn pack_reached(r: Reached) -> usize
     match r {
         Reached::By(p) => above(p.0),
         Reached::Refused(k) => wide(k),
+    }
+}
+
+fn pack_planned(p: Planned) -> usize
+    ensures { λ r. ⌜ r ≡ packPlanned p ⌝ }
+{
+    match p {
+        Planned::Done => 0,
+        Planned::Refused(k) => wide(k),
     }
 }
 
@@ -97,6 +108,26 @@ pub extern "C" fn kg_reach(pitch: u32, overhang: u32) -> usize
     ensures { λ r. ⌜ r ≡ packReached (reachAnswer (um pitch) (um overhang)) ⌝ }
 {
     pack_reached(reach(Micrometres(pitch), Micrometres(overhang)))
+}
+
+// Plans support and rings.
+#[no_mangle]
+pub extern "C" fn kg_plan(
+    w: usize,
+    h: usize,
+    n: usize,
+    pitch: u32,
+    overhang: u32,
+    part: &[u8],
+    support: &mut [u8],
+    rings: &mut [u16],
+) -> usize
+    ensures { λ r. ⌜ r ≡ packPlanned (planAnswer (settingsOf w h n pitch overhang) (now (part .entry)) (length (now (support .entry))) (length (now (rings .entry)))) ⌝ }
+    ensures { λ _. ⌜ now (support .exit) ≡ planSupport (settingsOf w h n pitch overhang) (now (part .entry)) (now (support .entry)) (now (rings .entry)) ⌝ }
+    ensures { λ _. ⌜ now (rings .exit) ≡ planRings (settingsOf w h n pitch overhang) (now (part .entry)) (now (support .entry)) (now (rings .entry)) ⌝ }
+{
+    let s = settings(w, h, n, pitch, overhang);
+    pack_planned(plan(s, part, support, rings))
 }
 
 // Judges support that anyone made.

@@ -1,0 +1,339 @@
+// Runs every bench piece of document 01 through the public calls, and then the ends of its limits. A planned piece shows its number, its
+// support in hexadecimal and its rings; a checked one its number and place.
+use judge::judge;
+use libc::STDOUT_FILENO;
+use plan::plan;
+use rules::Judged;
+use rules::Micrometres;
+use rules::Planned;
+use rules::Settings;
+ghost use mathlib.Core.Path.{_≡_};
+ghost use Prim.Native.Nat.{_≤_, _<_};
+ghost use lib.ListN.{length};
+
+fn say(text: &[u8]) {
+    io::write_all(STDOUT_FILENO, text);
+}
+
+// A number, after a space.
+fn show(n: u64) {
+    say(b" ");
+    io::print_decimal(STDOUT_FILENO, n);
+}
+
+fn wide(n: usize) -> u64 {
+    n as u64
+}
+
+fn digit(n: u8) -> u8
+    requires { ⌜ n < 16 ⌝ }
+{
+    if n < 10 { 48 + n } else { 55 + n }
+}
+
+// A byte as two hexadecimal digits, after a space.
+fn show_byte(b: u8) {
+    let mut text = [32u8; 3];
+    text[1] = digit(b / 16);
+    text[2] = digit(b % 16);
+    say(&text);
+}
+
+fn show_bytes(s: &[u8]) {
+    let mut i = 0;
+    while i < s.len() {
+        show_byte(s[i]);
+        i += 1;
+    }
+}
+
+fn show_rings(rings: &[u16]) {
+    let mut i = 0;
+    while i < rings.len() {
+        show(wide_ring(rings[i]));
+        i += 1;
+    }
+}
+
+fn settings(w: usize, h: usize, n: usize, pitch: u32, overhang: u32) -> Settings {
+    Settings {
+        w,
+        h,
+        n,
+        pitch: Micrometres(pitch),
+        overhang: Micrometres(overhang),
+    }
+}
+
+fn plan_number(r: Planned) -> u64 {
+    match r {
+        Planned::Done => 0,
+        Planned::Refused(k) => k as u64,
+    }
+}
+
+fn show_judged(r: Judged) {
+    match r {
+        Judged::Accepted => show(0),
+        Judged::Refused(k) => show(k as u64),
+        Judged::RefusedAt(k, at) => {
+            show(k as u64);
+            show(wide(at.layer));
+            show(wide(at.row));
+            show(wide(at.column));
+        }
+    }
+    say(b"\n");
+}
+
+// Plans a piece, and has its result checked.
+fn show_plan(name: &[u8], s: Settings, part: &[u8], support: &mut [u8], rings: &mut [u16]) {
+    say(name);
+    show(plan_number(plan(s, part, support, rings)));
+    say(b" support");
+    show_bytes(support);
+    say(b" rings");
+    show_rings(rings);
+    say(b" check");
+    show_judged(judge(s, part, support, rings));
+}
+
+// Checks piece b with another support or other rings.
+fn show_check(name: &[u8], support: &[u8], rings: &[u16]) {
+    let part = [0xE0u8, 0xFF];
+    say(name);
+    show_judged(judge(settings(8, 1, 2, 100, 200), &part, support, rings));
+}
+
+fn one_row() {
+    let mut one = [0xAAu8; 1];
+    let mut two = [0xAAu8; 2];
+    let mut none = [7u16; 0];
+    let mut rings = [7u16; 8];
+    show_plan(
+        b"a",
+        settings(8, 1, 1, 100, 200),
+        &[0xFF],
+        &mut one,
+        &mut none,
+    );
+    show_plan(
+        b"b",
+        settings(8, 1, 2, 100, 200),
+        &[0xE0, 0xFF],
+        &mut two,
+        &mut rings,
+    );
+    show_plan(
+        b"c",
+        settings(8, 1, 2, 100, 200),
+        &[0xE0, 0x1F],
+        &mut two,
+        &mut rings,
+    );
+    show_plan(
+        b"d",
+        settings(8, 1, 2, 100, 300),
+        &[0xE0, 0xF7],
+        &mut two,
+        &mut rings,
+    );
+    show_plan(
+        b"e",
+        settings(8, 1, 2, 100, 99),
+        &[0xE0, 0xFF],
+        &mut two,
+        &mut rings,
+    );
+}
+
+fn more_layers() {
+    let mut three = [0xAAu8; 3];
+    let mut rings = [7u16; 16];
+    show_plan(
+        b"f",
+        settings(8, 1, 3, 100, 200),
+        &[0x00, 0xE0, 0xFF],
+        &mut three,
+        &mut rings,
+    );
+    show_plan(
+        b"g",
+        settings(8, 1, 3, 100, 200),
+        &[0x01, 0xE0, 0xFF],
+        &mut three,
+        &mut rings,
+    );
+    let mut four = [0xAAu8; 4];
+    let mut small = [7u16; 4];
+    show_plan(
+        b"h",
+        settings(2, 2, 2, 100, 100),
+        &[0x80, 0x00, 0xC0, 0xC0],
+        &mut four,
+        &mut small,
+    );
+    let mut two = [0xAAu8; 2];
+    let mut eight = [7u16; 8];
+    show_plan(
+        b"i zero",
+        settings(8, 1, 2, 100, 200),
+        &[0x00, 0x00],
+        &mut two,
+        &mut eight,
+    );
+    show_plan(
+        b"i equal",
+        settings(8, 1, 2, 100, 200),
+        &[0xE7, 0xE7],
+        &mut two,
+        &mut eight,
+    );
+}
+
+fn checks() {
+    let rings = [0u16, 0, 0, 1, 2, 0, 0, 0];
+    show_check(b"j", &[0x0F, 0x00], &rings);
+    show_check(b"k", &[0x07, 0x00], &[0, 0, 0, 1, 1, 0, 0, 0]);
+    show_check(b"l", &[0x03, 0x00], &rings);
+    show_check(b"m", &[0x27, 0x00], &rings);
+}
+
+fn one(yes: bool) -> u64
+    ensures { λ r. ⌜ r ≤ 1 ⌝ }
+{
+    if yes { 1 } else { 0 }
+}
+
+// How many bytes are not 0.
+fn filled(s: &[u8]) -> u64 {
+    let mut n = 0;
+    let mut i = 0;
+    while i < s.len() {
+        n += one(s[i] != 0);
+        i += 1;
+    }
+    n
+}
+
+fn larger(a: u16, b: u16) -> u16 {
+    if a < b { b } else { a }
+}
+
+fn wide_ring(v: u16) -> u64 {
+    v as u64
+}
+
+// How many rings there are, and the largest.
+fn show_rings_in(rings: &[u16]) {
+    let mut n = 0;
+    let mut most: u16 = 0;
+    let mut i = 0;
+    while i < rings.len() {
+        n += one(rings[i] != 0);
+        most = larger(most, rings[i]);
+        i += 1;
+    }
+    show(n);
+    show(wide_ring(most));
+}
+
+// Plans a large piece and shows the filled bytes of its support, how many rings there are and the largest, and the check.
+fn show_large(name: &[u8], s: Settings, part: &[u8], support: &mut [u8], rings: &mut [u16]) {
+    say(name);
+    show(plan_number(plan(s, part, support, rings)));
+    show(filled(support));
+    show_rings_in(rings);
+    say(b" check");
+    show_judged(judge(s, part, support, rings));
+}
+
+fn put(s: &mut [u8], at: usize) {
+    if at < s.len() {
+        s[at] = 0xFF;
+    }
+}
+
+// Fills n bytes from `at` on.
+fn fill(s: &mut [u8], at: usize, n: usize)
+    requires { ⌜ (at ≤ 65536) × (n ≤ 65536) ⌝ }
+{
+    let mut i = 0;
+    while i < n {
+        put(s, at + i);
+        i += 1;
+    }
+}
+
+// The left half of 256 rows of 32 bytes.
+fn fill_half(s: &mut [u8]) {
+    let mut row = 0;
+    while row < 256 {
+        fill(s, row * 32, 16);
+        row += 1;
+    }
+}
+
+// Two layers of 256 by 256 pixels: both full, and a full one over a half, for a reach of 32 and of 0.
+fn wide_layers() {
+    let mut part = [0u8; 16384];
+    let mut support = [0xAAu8; 16384];
+    let mut rings = [7u16; 65536];
+    fill(&mut part, 0, 16384);
+    show_large(
+        b"full",
+        settings(256, 256, 2, 10, 320),
+        &part,
+        &mut support,
+        &mut rings,
+    );
+    let mut half = [0u8; 16384];
+    fill(&mut half, 8192, 8192);
+    fill_half(&mut half);
+    show_large(
+        b"half, reach 32",
+        settings(256, 256, 2, 10, 320),
+        &half,
+        &mut support,
+        &mut rings,
+    );
+    show_large(
+        b"half, reach 0",
+        settings(256, 256, 2, 10, 9),
+        &half,
+        &mut support,
+        &mut rings,
+    );
+}
+
+// 512 layers of one pixel, of which only the top one is filled; and rows of nine pixels.
+fn many_layers() {
+    let mut part = [0u8; 512];
+    let mut support = [0xAAu8; 512];
+    let mut rings = [7u16; 511];
+    part[511] = 0x80;
+    show_large(
+        b"tower",
+        settings(1, 1, 512, 100, 200),
+        &part,
+        &mut support,
+        &mut rings,
+    );
+    let mut rows = [0xAAu8; 8];
+    let mut nines = [7u16; 18];
+    show_plan(
+        b"nine",
+        settings(9, 2, 2, 100, 200),
+        &[0x80, 0x00, 0x00, 0x00, 0xFF, 0x80, 0x00, 0x80],
+        &mut rows,
+        &mut nines,
+    );
+}
+
+fn main() {
+    one_row();
+    more_layers();
+    checks();
+    wide_layers();
+    many_layers();
+}
