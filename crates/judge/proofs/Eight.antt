@@ -146,3 +146,13 @@ leans-is w h low up rings p k ek b e = rw (← ek) (sym e)
 
 pub bad-row : (w h q t : ℕ) (low up : Plane) (ring : ℕ → ℕ) (r x : ℕ) → x ≡ r * w → (c : ℕ) → c < w → badBeyond w h q t low up ring (x + c) ≡ badBeyond w h q t low up ring (r * w + c)
 bad-row w h q t low up ring r x e c l = rw e
+
+-- eight columns without rings
+pub quiet-eight : (w h q t : ℕ) (low up : Plane) (rings : List ℕ) (r c : ℕ) → ((j : ℕ) → j < 8 → getD rings (r * w + c + j) 0 ≡ 0) →
+    ((y : ℕ) → 0 ≤ y → y < c → badBeyond w h q t low up (λ o. getD rings o 0) (r * w + y) ≡ false) →
+    (y : ℕ) → 0 ≤ y → y < c + 8 → badBeyond w h q t low up (λ o. getD rings o 0) (r * w + y) ≡ false
+quiet-eight w h q t low up rings r c all before y z l =
+    split (ltb y c) (λ b. before y z (ltb-true y c b)) (λ b.
+    let g : c ≤ y = ltb-false y c b in
+    let e : r * w + c + (y - c) ≡ r * w + y = omega arith in
+    no-ring w h q t low up (λ o. getD rings o 0) (r * w + y) (rw e at (all (y - c) (omega arith))))

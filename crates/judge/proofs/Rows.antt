@@ -7,10 +7,12 @@ use native.Mathlib.Nat.{mul-assoc, mul-le-mul, zero-add}
 use native.Mathlib.Omega.{arith}
 use lib.Arith.{digits-lt}
 use lib.Bits.{bitAnd, bitOr, or-add-and, and-le-l, and-le-r}
-use lib.Dec.{eqb}
+use lib.Dec.{eqb, ltb}
 use lib.ListN.{getD, length}
+use borrow.Author.Tests.{ltb-true, ltb-false}
 use borrow.Author.Count.{below-more}
 use Rattle.rules.specs.Images.{rowBytes, bitAt}
+use Rattle.laws.specs.Tests.{split}
 use Rattle.laws.specs.Places.{digits-in}
 use Rattle.judge.specs.Search.{Least, bitIn, planeOf, overlapHere, unheldHere, overlapIn, unheldIn, Sized}
 use Rattle.judge.proofs.Bits.{bit-and, byte-in, no-bit}
@@ -143,3 +145,15 @@ module _ (w h n i at bytes x : ℕ) (eb : bytes ≡ h * rowBytes w) (ea : at ≡
 
 pub fit-of : (a b m n : ℕ) → a ≤ m → b ≤ n → a * b ≤ m * n
 fit-of a b m n l k = mul-le-mul l k
+
+-- a byte over which nothing hangs
+pub unheld-skip : (low up below above rings : List ℕ) (at x w c b m : ℕ) → c % 8 ≡ 0 → b ≡ at + c / 8 →
+    ((k : ℕ) → k < 8 → bitAt m k ≡ ((bitAt (getD up b 0) k || bitAt (getD above b 0) k) && not (bitAt (getD low b 0) k || bitAt (getD below b 0) k))) → m ≡ 0 →
+    ((y : ℕ) → y < c → y < w → unheldIn low up below above rings at x y ≡ false) → (y : ℕ) → y < c + 8 → y < w → unheldIn low up below above rings at x y ≡ false
+unheld-skip low up below above rings at x w c b m z eb h e before y l lw =
+    split (ltb y c) (λ t. before y (ltb-true y c t) lw) (λ t.
+    let g : c ≤ y = ltb-false y c t in
+    let d : c + (y - c) ≡ y = omega arith in
+    let u : unheldIn low up below above rings at x (c + (y - c)) ≡ false =
+    unheld-byte low up below above rings at x c b m (y - c) z eb (omega arith) h ∙ rw (no-bit m (y - c) e) in
+    rw d at u)

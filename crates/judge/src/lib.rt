@@ -69,9 +69,6 @@ fn bare_bit(m: u8, rings: &[u16], x: usize, to: usize) -> usize
     requires { ⌜ (to ≤ 8) × (x + to ≤ length (now rings)) ⌝ }
     ensures { λ r. ⌜ Least 0 to (λ k. bitAt m k && eqb (getD (now (rings .entry)) (x + k) 0) 0) r ⌝ }
 {
-    if m == 0 {
-        return to;
-    }
     let mut k = 0;
     while k < to {
         if bare(m, rings[x + k], k) {
@@ -213,11 +210,13 @@ fn unheld_row(
     let mut c = 0;
     let mut b = at;
     while c < w {
-        let end = smaller(w - c, 8);
         let m = hanging(up[b], above[b], low[b], below[b]);
-        let k = bare_bit(m, rings, x + c, end);
-        if k < end {
-            return c + k;
+        if m != 0 {
+            let end = smaller(w - c, 8);
+            let k = bare_bit(m, rings, x + c, end);
+            if k < end {
+                return c + k;
+            }
         }
         c += 8;
         b += 1;
@@ -504,7 +503,40 @@ fn bad(
     !near_at(low, half, w, h, r, c, q)
 }
 
-// The first bad ring of a row. A row without rings is passed over.
+// The first bad ring of a row from column a on and before `to`; or `to`.
+fn bad_from(
+    low: &[u8],
+    up: &[u8],
+    rings: &[u16],
+    half: &[usize],
+    w: usize,
+    h: usize,
+    r: usize,
+    a: usize,
+    to: usize,
+    q: usize,
+    t: u16,
+) -> usize
+    requires fits { ⌜ Sized w h × ((r < h) × ((a ≤ to) × (to ≤ w))) ⌝ }
+    requires planes { ⌜ (length (now rings) ≡ h * w) × ((length (now low) ≡ h * rowBytes w) × (length (now up) ≡ h * rowBytes w)) ⌝ }
+    requires disc { ⌜ Halves q (now half) ⌝ }
+    ensures { λ s. ⌜ Least a to (λ c. badBeyond w h q t (planeOf w (now (low .entry))) (planeOf w (now (up .entry))) (λ o. getD (now (rings .entry)) o 0) (r * w + c)) s ⌝ }
+{
+    let x = r * w;
+    let mut c = a;
+    while c < to {
+        let k = rings[x + c];
+        if k != 0 {
+            if bad(low, up, rings, half, w, h, r, c, q, t, k) {
+                return c;
+            }
+        }
+        c += 1;
+    }
+    to
+}
+
+// The first bad ring of a row. A row without rings is passed over, and so are eight columns without one.
 fn bad_row(
     low: &[u8],
     up: &[u8],
@@ -526,16 +558,16 @@ fn bad_row(
         return w;
     }
     let mut c = 0;
-    while c < w {
-        let k = rings[x + c];
-        if k != 0 {
-            if bad(low, up, rings, half, w, h, r, c, q, t, k) {
-                return c;
+    while c + 8 <= w {
+        if !quiet(rings, x + c, 8) {
+            let b = bad_from(low, up, rings, half, w, h, r, c, c + 8, q, t);
+            if b < c + 8 {
+                return b;
             }
         }
-        c += 1;
+        c += 8;
     }
-    w
+    bad_from(low, up, rings, half, w, h, r, c, w, q, t)
 }
 
 // The first bad ring of a pair, where rings of at most t are taken for near.
