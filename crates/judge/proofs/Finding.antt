@@ -5,8 +5,8 @@ use Prim.Native.Nat.{ℕ, _+_, _-_, _<_, _≤_}
 use native.Mathlib.Omega.{arith}
 use lib.Dec.{ltb}
 use borrow.Author.Tests.{ltb-true, ltb-false}
-use Rattle.rules.specs.Tools.{nothing, found, first}
-use Rattle.laws.specs.Tests.{split}
+use Rattle.rules.specs.Tools.{nothing, found, first, some}
+use Rattle.laws.specs.Tests.{split, clash, some-out}
 use Rattle.laws.specs.Places.{none-is, one-is, first-is, first-unique}
 use Rattle.judge.specs.Search.{Least}
 
@@ -60,3 +60,6 @@ module _ (a e : ℕ) (f : ℕ → Bool) (k : ℕ) (before : (y : ℕ) → 0 ≤ 
 
   pub onward-more : e ≤ k → (y : ℕ) → 0 ≤ y → y < e → f y ≡ false
   onward-more h y z l = onward y z (omega arith)
+
+pub some-none : (n : ℕ) (f : ℕ → Bool) → ((x : ℕ) → x < n → f x ≡ false) → some n f ≡ false
+some-none n f h = split (some n f) (λ t. let (x, l, e) = some-out n f t in clash e (h x l)) (λ e. e)
