@@ -9,14 +9,15 @@ use lib.Dec.{leb, ltb}
 use lib.ListN.{getD}
 use borrow.Author.Tests.{ltb-true, ltb-false, eq-eqb, ne-eqb, lt-ltb, le-ltb, le-leb, lt-leb}
 use Rattle.rules.specs.Images.{Plane, rowBytes}
-use Rattle.rules.specs.Planning.{shadow, near, seeds, reached, source, touch, touching, fits}
+use Rattle.rules.specs.Planning.{shadow, near, seeds, source, touch, touching}
 use Rattle.laws.specs.Tests.{split, clash, and-in, some-in}
 use Rattle.laws.specs.Places.{digits-in}
 use Rattle.laws.specs.Neighbours.{Touching, touch-out, touch-in}
-use Rattle.judge.specs.Search.{bitIn, planeOf, badHere, badBeyond, lender}
+use Rattle.judge.specs.Search.{bitIn, badBy, lender}
 use Rattle.judge.proofs.Bits.{and-true}
 use Rattle.judge.proofs.Planes.{row-in, plane-at, in-plane}
-use Rattle.judge.proofs.Nearness.{some-none}
+use Rattle.image.specs.Rows.{packed}
+use Rattle.judge.proofs.Finding.{some-none}
 
 -- the byte of a pixel lies in its plane
 pub byte-in-plane : (w h y x rb len : ℕ) → y < h → x < w → rb ≡ rowBytes w → len ≡ h * rowBytes w → y * rb + x / 8 < len
@@ -88,61 +89,61 @@ row-more w h r c f y x all here past n l b d m lm a e =
 abbrev pub leans : ℕ → ℕ → Plane → Plane → (ℕ → ℕ) → Plane
 leans w h low up ring p = touching (h * w) (touch w) (source (seeds low up) ring (ring p - 1)) p
 
-module _ (w h q t : ℕ) (low up : Plane) (ring : ℕ → ℕ) (p : ℕ) where
-  bad-is : 0 < ring p → (u l e n s : Bool) → up p ≡ u → low p ≡ l → leb (ring p) t ≡ e → near w h q low p ≡ n → leans w h low up ring p ≡ s →
-      badBeyond w h q t low up ring p ≡ not (u && not l && (e || n) && s)
-  unfolding badBeyond shadow
+module _ (w h t : ℕ) (close low up : Plane) (ring : ℕ → ℕ) (p : ℕ) where
+  bad-is : 0 < ring p → (u l e n s : Bool) → up p ≡ u → low p ≡ l → leb (ring p) t ≡ e → close p ≡ n → leans w h low up ring p ≡ s →
+      badBy w h t close low up ring p ≡ not (u && not l && (e || n) && s)
+  unfolding badBy shadow
   bad-is b u l e n s eu el ee en es = rw (lt-ltb 0 (ring p) b, eu, el, ee, en, es)
 
-  pub no-ring : ring p ≡ 0 → badBeyond w h q t low up ring p ≡ false
-  unfolding badBeyond
+  pub no-ring : ring p ≡ 0 → badBy w h t close low up ring p ≡ false
+  unfolding badBy
   no-ring e = rw (le-ltb 0 (ring p) (omega arith))
 
-  pub not-above : 0 < ring p → up p ≡ false → true ≡ badBeyond w h q t low up ring p
+  pub not-above : 0 < ring p → up p ≡ false → true ≡ badBy w h t close low up ring p
   not-above b u = sym (bad-is b false _ _ _ _ u refl refl refl refl)
 
-  pub in-low : 0 < ring p → up p ≡ true → low p ≡ true → true ≡ badBeyond w h q t low up ring p
+  pub in-low : 0 < ring p → up p ≡ true → low p ≡ true → true ≡ badBy w h t close low up ring p
   in-low b u l = sym (bad-is b true true _ _ _ u l refl refl refl)
 
   not-and : (n : Bool) → not (n && false) ≡ true
   not-and true = refl
   not-and false = refl
 
-  pub untouched : 0 < ring p → up p ≡ true → low p ≡ false → leans w h low up ring p ≡ false → true ≡ badBeyond w h q t low up ring p
-  untouched b u l s = sym (bad-is b true false _ _ false u l refl refl s ∙ not-and (leb (ring p) t || near w h q low p))
+  pub untouched : 0 < ring p → up p ≡ true → low p ≡ false → leans w h low up ring p ≡ false → true ≡ badBy w h t close low up ring p
+  untouched b u l s = sym (bad-is b true false _ _ false u l refl refl s ∙ not-and (leb (ring p) t || close p))
 
   -- a ring that is taken for near
-  pub by-trust : 0 < ring p → up p ≡ true → low p ≡ false → leans w h low up ring p ≡ true → ring p ≤ t → false ≡ badBeyond w h q t low up ring p
-  by-trust b u l s e = sym (bad-is b true false true _ true u l (le-leb (ring p) t e) refl s)
+  pub by-ring : 0 < ring p → up p ≡ true → low p ≡ false → leans w h low up ring p ≡ true → ring p ≤ t → false ≡ badBy w h t close low up ring p
+  by-ring b u l s e = sym (bad-is b true false true _ true u l (le-leb (ring p) t e) refl s)
 
-  pub by-near : 0 < ring p → up p ≡ true → low p ≡ false → leans w h low up ring p ≡ true → t < ring p → (n : Bool) → n ≡ near w h q low p → not n ≡ badBeyond w h q t low up ring p
-  by-near b u l s e n en = sym (bad-is b true false false n true u l (lt-leb (ring p) t e) (sym en) s ∙ rw (and-true n))
-
--- where no ring is taken for near it is a bad ring
-pub beyond-none : (w h q : ℕ) (low up : Plane) (ring : ℕ → ℕ) (p : ℕ) → badBeyond w h q 0 low up ring p ≡ badHere w h q low up ring p
-unfolding badBeyond badHere fits reached
-beyond-none w h q low up ring p = split (ltb 0 (ring p)) (λ t. rw (t, lt-leb (ring p) 0 (ltb-true 0 (ring p) t))) (λ t. rw t)
+  pub by-close : 0 < ring p → up p ≡ true → low p ≡ false → leans w h low up ring p ≡ true → t < ring p → (n : Bool) → close p ≡ n → not n ≡ badBy w h t close low up ring p
+  by-close b u l s e n en = sym (bad-is b true false false n true u l (lt-leb (ring p) t e) en s ∙ rw (and-true n))
 
 -- a pixel of a plane, as the code reads it
-pub pixel-is : (w : ℕ) (s : List ℕ) (r c rb : ℕ) (b : Bool) → c < w → rb ≡ rowBytes w → b ≡ bitIn s (r * rb) c → planeOf w s (r * w + c) ≡ b
+pub pixel-is : (w : ℕ) (s : List ℕ) (r c rb : ℕ) (b : Bool) → c < w → rb ≡ rowBytes w → b ≡ bitIn s (r * rb) c → packed w s (r * w + c) ≡ b
 pixel-is w s r c rb b lc er e = plane-at w s r c lc ∙ rw (← er) (sym e)
 
 -- A row without rings ----------------------------------------------------------------------------------------------------
 
-module _ (w h q t : ℕ) (low up : Plane) (rings : List ℕ) where
-  pub quiet-row : (r x : ℕ) → x ≡ r * w → ((j : ℕ) → j < w → getD rings (x + j) 0 ≡ 0) → (y : ℕ) → 0 ≤ y → y < w → badBeyond w h q t low up (λ o. getD rings o 0) (r * w + y) ≡ false
-  quiet-row r x e all y a l = no-ring w h q t low up (λ o. getD rings o 0) (r * w + y) (rw (← e) (all y l))
-
-  pub quiet-plane : ((j : ℕ) → j < h * w → getD rings (0 + j) 0 ≡ 0) → (y : ℕ) → 0 ≤ y → y < h * w → badHere w h q low up (λ o. getD rings o 0) y ≡ false
-  quiet-plane all y a l =
-      let z : 0 + y ≡ y = omega arith in
-      sym (beyond-none w h q low up (λ o. getD rings o 0) y) ∙ no-ring w h q 0 low up (λ o. getD rings o 0) y (rw z at (all y l))
+module _ (w h t : ℕ) (close low up : Plane) (rings : List ℕ) where
+  pub quiet-row : (r x : ℕ) → x ≡ r * w → ((j : ℕ) → j < w → getD rings (x + j) 0 ≡ 0) → (y : ℕ) → 0 ≤ y → y < w → badBy w h t close low up (λ o. getD rings o 0) (r * w + y) ≡ false
+  quiet-row r x e all y a l = no-ring w h t close low up (λ o. getD rings o 0) (r * w + y) (rw (← e) (all y l))
 
 -- what `touches` tells, for the ring that the pixel has
 pub leans-is : (w h : ℕ) (low up rings : List ℕ) (p k : ℕ) → k ≡ getD rings p 0 → (b : Bool) → b ≡ touching (h * w) (touch w) (lender w low up rings k) p →
-    leans w h (planeOf w low) (planeOf w up) (λ o. getD rings o 0) p ≡ b
+    leans w h (packed w low) (packed w up) (λ o. getD rings o 0) p ≡ b
 unfolding lender
 leans-is w h low up rings p k ek b e = rw (← ek) (sym e)
 
-pub bad-row : (w h q t : ℕ) (low up : Plane) (ring : ℕ → ℕ) (r x : ℕ) → x ≡ r * w → (c : ℕ) → c < w → badBeyond w h q t low up ring (x + c) ≡ badBeyond w h q t low up ring (r * w + c)
-bad-row w h q t low up ring r x e c l = rw e
+pub bad-row : (w h t : ℕ) (close low up : Plane) (ring : ℕ → ℕ) (r x : ℕ) → x ≡ r * w → (c : ℕ) → c < w → badBy w h t close low up ring (x + c) ≡ badBy w h t close low up ring (r * w + c)
+bad-row w h t close low up ring r x e c l = rw e
+
+-- eight columns without rings
+pub quiet-eight : (w h t : ℕ) (close low up : Plane) (rings : List ℕ) (r c : ℕ) → ((j : ℕ) → j < 8 → getD rings (r * w + c + j) 0 ≡ 0) →
+    ((y : ℕ) → 0 ≤ y → y < c → badBy w h t close low up (λ o. getD rings o 0) (r * w + y) ≡ false) →
+    (y : ℕ) → 0 ≤ y → y < c + 8 → badBy w h t close low up (λ o. getD rings o 0) (r * w + y) ≡ false
+quiet-eight w h t close low up rings r c all before y z l =
+    split (ltb y c) (λ b. before y z (ltb-true y c b)) (λ b.
+    let g : c ≤ y = ltb-false y c b in
+    let e : r * w + c + (y - c) ≡ r * w + y = omega arith in
+    no-ring w h t close low up (λ o. getD rings o 0) (r * w + y) (rw e at (all (y - c) (omega arith))))

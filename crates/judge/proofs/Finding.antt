@@ -5,8 +5,8 @@ use Prim.Native.Nat.{ℕ, _+_, _-_, _<_, _≤_}
 use native.Mathlib.Omega.{arith}
 use lib.Dec.{ltb}
 use borrow.Author.Tests.{ltb-true, ltb-false}
-use Rattle.rules.specs.Tools.{nothing, found, first}
-use Rattle.laws.specs.Tests.{split}
+use Rattle.rules.specs.Tools.{nothing, found, first, some}
+use Rattle.laws.specs.Tests.{split, clash, some-out}
 use Rattle.laws.specs.Places.{none-is, one-is, first-is, first-unique}
 use Rattle.judge.specs.Search.{Least}
 
@@ -46,3 +46,20 @@ least-found n f r s l =
 pub least-nothing : (n : ℕ) (f : ℕ → Bool) (r : ℕ) → Least 0 n f r → n ≤ r → first 0 n f ≡ nothing
 least-nothing n f r s l =
     first-unique 0 n f (first 0 n f) nothing (first-is 0 n f) (none-is (λ y a b. s .before y a (omega arith)))
+
+-- all before a fail, and the search goes on from a: found, at the end, and further
+module _ (a e : ℕ) (f : ℕ → Bool) (k : ℕ) (before : (y : ℕ) → 0 ≤ y → y < a → f y ≡ false) (r : Least a e f k) where
+  onward : (y : ℕ) → 0 ≤ y → y < k → f y ≡ false
+  onward y z l = split (ltb y a) (λ t. before y z (ltb-true y a t)) (λ t. r .before y (ltb-false y a t) l)
+
+  pub onward-hit : (m : ℕ) → e ≤ m → k < e → Least 0 m f k
+  onward-hit m l h = record { low = omega arith; bound = omega arith; before = onward; at = λ _. r .at h }
+
+  pub onward-end : Least 0 e f k
+  onward-end = record { low = omega arith; bound = r .bound; before = onward; at = r .at }
+
+  pub onward-more : e ≤ k → (y : ℕ) → 0 ≤ y → y < e → f y ≡ false
+  onward-more h y z l = onward y z (omega arith)
+
+pub some-none : (n : ℕ) (f : ℕ → Bool) → ((x : ℕ) → x < n → f x ≡ false) → some n f ≡ false
+some-none n f h = split (some n f) (λ t. let (x, l, e) = some-out n f t in clash e (h x l)) (λ e. e)

@@ -3,7 +3,7 @@ pub mod Bits
 pub mod Finding
 pub mod Planes
 pub mod Rows
-pub mod Nearness
 pub mod Eight
 pub mod Verdicts
+pub mod Scratch
 pub mod Trust

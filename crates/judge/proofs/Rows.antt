@@ -7,14 +7,19 @@ use native.Mathlib.Nat.{mul-assoc, mul-le-mul, zero-add}
 use native.Mathlib.Omega.{arith}
 use lib.Arith.{digits-lt}
 use lib.Bits.{bitAnd, bitOr, or-add-and, and-le-l, and-le-r}
-use lib.Dec.{eqb}
+use lib.Dec.{eqb, ltb}
 use lib.ListN.{getD, length}
+use borrow.Author.Tests.{ltb-true, ltb-false}
 use borrow.Author.Count.{below-more}
 use Rattle.rules.specs.Images.{rowBytes, bitAt}
+use Rattle.laws.specs.Tests.{split}
 use Rattle.laws.specs.Places.{digits-in}
-use Rattle.judge.specs.Search.{Least, bitIn, planeOf, overlapHere, unheldHere, overlapIn, unheldIn, Sized}
-use Rattle.judge.proofs.Bits.{bit-and, byte-in, no-bit}
+use Rattle.judge.specs.Search.{Least, bitIn, overlapHere, unheldHere, overlapIn, unheldIn, Sized}
+use Rattle.judge.proofs.Bits.{byte-in, no-bit}
 use Rattle.judge.proofs.Finding.{least-none}
+use Rattle.image.specs.Bits.{bit-and}
+use Rattle.image.specs.Rows.{packed}
+use Rattle.image.specs.Packed.{row-bit}
 use Rattle.judge.proofs.Planes.{row-in, cut, cut-length}
 
 -- Bytes of a row --------------------------------------------------------------------------------------------------------
@@ -56,10 +61,11 @@ unfolding rowBytes
 byte-of w h n p e l = let (lr, lc) = digits-in p h w l in rw e (digits-lt lr (omega arith))
 
 pub apart-none : (part sup : List ℕ) (w h n : ℕ) → n ≡ h * rowBytes w →
-    ((j : ℕ) → j < n → (k : ℕ) → k < 8 → (bitAt (getD sup j 0) k && bitAt (getD part j 0) k) ≡ false) → Least 0 (h * w) (overlapHere (planeOf w part) (planeOf w sup)) (h * w)
-unfolding overlapHere planeOf bitIn
+    ((j : ℕ) → j < n → (k : ℕ) → k < 8 → (bitAt (getD sup j 0) k && bitAt (getD part j 0) k) ≡ false) → Least 0 (h * w) (overlapHere (packed w part) (packed w sup)) (h * w)
+unfolding overlapHere packed
 apart-none part sup w h n e all =
-    least-none 0 (h * w) _ (omega arith) (λ p a l. all (p / w * rowBytes w + p % w / 8) (byte-of w h n p e l) (p % w % 8) (omega arith))
+    least-none 0 (h * w) _ (omega arith) (λ p a l.
+    rw (row-bit sup (p / w * rowBytes w) (p % w), row-bit part (p / w * rowBytes w) (p % w)) (all (p / w * rowBytes w + p % w / 8) (byte-of w h n p e l) (p % w % 8) (omega arith)))
 
 -- all bytes from `at` on are held
 abbrev pub Held : List ℕ → List ℕ → List ℕ → List ℕ → ℕ → ℕ → Type 0
@@ -71,13 +77,14 @@ unfolding unheldIn bitIn rowBytes
 held-row low up below above rings at x w n e all = least-none 0 w _ (omega arith) (λ y a l. rw (all (y / 8) (omega arith) (y % 8) (omega arith)))
 
 pub held-plane : (low up below above rings : List ℕ) (w h n : ℕ) → n ≡ h * rowBytes w → Held low up below above 0 n →
-    Least 0 (h * w) (unheldHere (planeOf w low) (planeOf w up) (planeOf w below) (planeOf w above) (λ p. getD rings p 0)) (h * w)
-unfolding unheldHere planeOf bitIn
+    Least 0 (h * w) (unheldHere (packed w low) (packed w up) (packed w below) (packed w above) (λ p. getD rings p 0)) (h * w)
+unfolding unheldHere packed
 held-plane low up below above rings w h n e all =
     least-none 0 (h * w) _ (omega arith) (λ p a l.
     let j : ℕ = p / w * rowBytes w + p % w / 8 in
     let z : 0 + j ≡ j = zero-add j in
-    rw (rw z at (all j (byte-of w h n p e l) (p % w % 8) (omega arith))))
+    let x : ℕ = p / w * rowBytes w in
+    rw (row-bit up x (p % w), row-bit above x (p % w), row-bit low x (p % w), row-bit below x (p % w), rw z at (all j (byte-of w h n p e l) (p % w % 8) (omega arith))))
 
 -- Row by row and plane by plane -------------------------------------------------------------------------------------------
 
@@ -143,3 +150,19 @@ module _ (w h n i at bytes x : ℕ) (eb : bytes ≡ h * rowBytes w) (ea : at ≡
 
 pub fit-of : (a b m n : ℕ) → a ≤ m → b ≤ n → a * b ≤ m * n
 fit-of a b m n l k = mul-le-mul l k
+
+-- a byte over which nothing hangs
+pub unheld-skip : (low up below above rings : List ℕ) (at x w c b m : ℕ) → c % 8 ≡ 0 → b ≡ at + c / 8 →
+    ((k : ℕ) → k < 8 → bitAt m k ≡ ((bitAt (getD up b 0) k || bitAt (getD above b 0) k) && not (bitAt (getD low b 0) k || bitAt (getD below b 0) k))) → m ≡ 0 →
+    ((y : ℕ) → y < c → y < w → unheldIn low up below above rings at x y ≡ false) → (y : ℕ) → y < c + 8 → y < w → unheldIn low up below above rings at x y ≡ false
+unheld-skip low up below above rings at x w c b m z eb h e before y l lw =
+    split (ltb y c) (λ t. before y (ltb-true y c t) lw) (λ t.
+    let g : c ≤ y = ltb-false y c t in
+    let d : c + (y - c) ≡ y = omega arith in
+    let u : unheldIn low up below above rings at x (c + (y - c)) ≡ false =
+    unheld-byte low up below above rings at x c b m (y - c) z eb (omega arith) h ∙ rw (no-bit m (y - c) e) in
+    rw d at u)
+
+-- the lower plane of a pair is one of the stack
+pub pair-low : (n i : ℕ) → i < n - 1 → i < n
+pair-low n i l = omega arith

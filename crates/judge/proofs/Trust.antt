@@ -1,39 +1,49 @@
 -- Rings that are near by themselves: a pixel of ring k is within k rows and k columns of a seed, so while 2 k² is at most the
 -- bound nothing need be measured, where every ring has one to lean on.
 use mathlib.Core.Path.{_≡_, refl, sym, _∙_}
+use lib.ListN.{getD}
+use mathlib.Core.List.{List}
 use mathlib.Core.Bool.{Bool, true, false, not, _&&_, _||_}
-use Prim.Native.Nat.{ℕ, zero, suc, _-_, _*_, _/_, _%_, _<_, _≤_}
+use Prim.Native.Nat.{ℕ, zero, suc, _-_, _*_, _/_, _%_, _<_, _≤_, _+_}
 use native.Mathlib.Nat.{mul-le-mul}
 use native.Mathlib.Omega.{arith}
 use lib.Dec.{leb, ltb, eqb}
-use borrow.Author.Tests.{lt-ltb, le-ltb, le-leb, leb-true}
+use borrow.Author.Tests.{lt-ltb, le-ltb, le-leb, lt-leb, leb-true, ltb-true}
 use Rattle.rules.specs.Images.{Plane}
 use Rattle.rules.specs.Reach.{square, apart, distance², root}
 use Rattle.rules.specs.Planning.{shadow, near, seeds, reached, source, touch, touching, fits}
 use Rattle.laws.specs.Tests.{split, clash, and-l, and-r, and-in, not-in, some-in, some-out}
 use Rattle.laws.specs.Discs.{root-low, root-small}
 use Rattle.laws.specs.Growing.{seed-source, ring-source}
-use Rattle.judge.specs.Search.{Least, badHere, badBeyond}
+use Rattle.image.specs.Scratch.{Sizes, seen, Drawn}
+use Rattle.image.specs.Planes.{scratch-seen}
+use Rattle.judge.specs.Search.{Least, badHere, badBy}
 use Rattle.judge.proofs.Finding.{least-none}
-use Rattle.judge.proofs.Eight.{leans, beyond-none}
+use Rattle.judge.proofs.Eight.{leans}
+
+-- where no ring is taken for near, and the plane is the near plane, it is a bad ring
+by-near-plane : (w h q t : ℕ) (close low up : Plane) (ring : ℕ → ℕ) (p : ℕ) → t ≡ 0 → close p ≡ near w h q low p → badBy w h t close low up ring p ≡ badHere w h q low up ring p
+unfolding badBy badHere fits reached
+by-near-plane w h q t close low up ring p z e =
+    split (ltb 0 (ring p)) (λ b. rw (b, e, lt-leb (ring p) t (omega (arith, ltb-true 0 (ring p) b)))) (λ b. rw b)
 
 -- one step further
 further : (a b c n : ℕ) → apart a b ≤ 1 → apart b c ≤ n → apart a c ≤ suc n
 unfolding apart
 further a b c n u v = omega arith
 
-module _ (w h q t : ℕ) (low up : Plane) (ring : ℕ → ℕ) (all : (p : ℕ) → p < h * w → badBeyond w h q t low up ring p ≡ false) where
-  good : (p j : ℕ) → p < h * w → ring p ≡ suc j → (shadow low up p && (leb (ring p) t || near w h q low p) && leans w h low up ring p) ≡ true
-  unfolding badBeyond
+module _ (w h q t : ℕ) (close low up : Plane) (ring : ℕ → ℕ) (all : (p : ℕ) → p < h * w → badBy w h t close low up ring p ≡ false) where
+  good : (p j : ℕ) → p < h * w → ring p ≡ suc j → (shadow low up p && (leb (ring p) t || close p) && leans w h low up ring p) ≡ true
+  unfolding badBy
   good p j l e =
-      let G : Bool = shadow low up p && (leb (ring p) t || near w h q low p) && leans w h low up ring p in
+      let G : Bool = shadow low up p && (leb (ring p) t || close p) && leans w h low up ring p in
       split G (λ g. g) (λ g. clash (and-in (ltb 0 (ring p)) (not G) (lt-ltb 0 (ring p) (omega arith)) (not-in G g)) (all p l))
 
   leaning : (p j : ℕ) → p < h * w → ring p ≡ suc j → (o : ℕ) × (o < h * w) × (touch w p o ≡ true) × (source (seeds low up) ring j o ≡ true)
   unfolding touching
   leaning p j l e =
       let z : ring p - 1 ≡ j = omega arith in
-      let s : touching (h * w) (touch w) (source (seeds low up) ring j) p ≡ true = rw z at (and-r (shadow low up p && (leb (ring p) t || near w h q low p)) (leans w h low up ring p) (good p j l e)) in
+      let s : touching (h * w) (touch w) (source (seeds low up) ring j) p ≡ true = rw z at (and-r (shadow low up p && (leb (ring p) t || close p)) (leans w h low up ring p) (good p j l e)) in
       let (o, lo, b) = some-out (h * w) (λ o. touch w p o && source (seeds low up) ring j o) s in
       (o, lo, and-l (touch w p o) _ b, and-r (touch w p o) _ b)
 
@@ -63,33 +73,45 @@ module _ (w h q t : ℕ) (low up : Plane) (ring : ℕ → ℕ) (all : (p : ℕ) 
       let c′ : apart (p % w) (o % w) ≤ t = omega arith in
       some-in (h * w) (λ o. low o && leb (distance² w p o) q) o lo (and-in (low o) _ f (le-leb _ q (omega (arith, mul-le-mul r′ r′, mul-le-mul c′ c′))))
 
-  -- so nothing is bad
-  pub trusted : 2 * (t * t) ≤ q → (p : ℕ) → p < h * w → badHere w h q low up ring p ≡ false
+  -- so nothing is bad, if `close` has only near pixels
+  pub trusted : 2 * (t * t) ≤ q → ((p : ℕ) → p < h * w → close p ≡ true → near w h q low p ≡ true) → (p : ℕ) → p < h * w → badHere w h q low up ring p ≡ false
   unfolding badHere fits reached
-  trusted lq p l = go (ring p) refl
+  trusted lq right p l = go (ring p) refl
     where
       go : (r : ℕ) → ring p ≡ r → badHere w h q low up ring p ≡ false
       go zero e = rw (le-ltb 0 (ring p) (omega arith))
       go (suc j) e =
-          let g : (shadow low up p && (leb (ring p) t || near w h q low p) && leans w h low up ring p) ≡ true = good p j l e in
-          let m : (shadow low up p && (leb (ring p) t || near w h q low p)) ≡ true = and-l _ (leans w h low up ring p) g in
+          let g : (shadow low up p && (leb (ring p) t || close p) && leans w h low up ring p) ≡ true = good p j l e in
+          let m : (shadow low up p && (leb (ring p) t || close p)) ≡ true = and-l _ (leans w h low up ring p) g in
           let n : near w h q low p ≡ true =
-          split (leb (ring p) t) (λ b. near-itself lq p j l e (leb-true (ring p) t b)) (λ b. rw b at (and-r (shadow low up p) _ m)) in
-          rw (lt-ltb 0 (ring p) (omega arith), and-l (shadow low up p) _ m, n, and-r (shadow low up p && (leb (ring p) t || near w h q low p)) _ g)
+          split (leb (ring p) t) (λ b. near-itself lq p j l e (leb-true (ring p) t b)) (λ b. right p l (rw b at (and-r (shadow low up p) _ m))) in
+          rw (lt-ltb 0 (ring p) (omega arith), and-l (shadow low up p) _ m, n, and-r (shadow low up p && (leb (ring p) t || close p)) _ g)
 
--- the search beyond t found nothing
-pub trusted-none : (w h q t : ℕ) (low up : Plane) (ring : ℕ → ℕ) (r : ℕ) → 2 * (t * t) ≤ q → Least 0 (h * w) (badBeyond w h q t low up ring) r → h * w ≤ r → Least 0 (h * w) (badHere w h q low up ring) (h * w)
-trusted-none w h q t low up ring r lq s b =
-    least-none 0 (h * w) _ (omega arith) (λ p a l. trusted w h q t low up ring (λ o lo. s .before o (omega arith) (omega arith)) lq p l)
+-- a plane without rings has no bad one
+pub quiet-plane : (w h q : ℕ) (low up : Plane) (rings : List ℕ) → ((j : ℕ) → j < h * w → getD rings (0 + j) 0 ≡ 0) → Least 0 (h * w) (badHere w h q low up (λ o. getD rings o 0)) (h * w)
+unfolding badHere
+quiet-plane w h q low up rings all =
+    least-none 0 (h * w) _ (omega arith) (λ y a l. let z : 0 + y ≡ y = omega arith in rw (le-ltb 0 (getD rings y 0) (omega (arith, rw z at (all y l)))))
 
--- the search beyond 0 is the one for bad rings
-pub beyond-least : (w h q : ℕ) (low up : Plane) (ring : ℕ → ℕ) (r : ℕ) → Least 0 (h * w) (badBeyond w h q 0 low up ring) r → Least 0 (h * w) (badHere w h q low up ring) r
-beyond-least w h q low up ring r s = record {
-  low = s .low;
-  bound = s .bound;
-  before = λ y a l. sym (beyond-none w h q low up ring y) ∙ s .before y a l;
-  at = λ l. sym (beyond-none w h q low up ring r) ∙ s .at l;
-}
+module _ (w h q t st : ℕ) (low up : Plane) (ring : ℕ → ℕ) (scratch : List ℕ) (z : Sizes w h st) (r : ℕ) (s : Least 0 (h * w) (badBy w h t (seen w st scratch) low up ring) r) where
+  -- the search with an empty plane found nothing
+  pub trusted-none : 2 * (t * t) ≤ q → Drawn w h st (λ p. false) scratch → h * w ≤ r → Least 0 (h * w) (badHere w h q low up ring) (h * w)
+  trusted-none lq d b =
+      least-none 0 (h * w) _ (omega arith) (λ p a l.
+      trusted w h q t (seen w st scratch) low up ring (λ o lo. s .before o (omega arith) (omega arith)) lq
+      (λ o lo e. clash e (scratch-seen w h st z (λ p. false) scratch (d .is) o lo)) p l)
+
+  -- the search with the near plane is the one for bad rings
+  pub near-search : t ≡ 0 → Drawn w h st (near w h q low) scratch → Least 0 (h * w) (badHere w h q low up ring) r
+  near-search e d = record {
+    low = s .low;
+    bound = s .bound;
+    before = λ y a l. sym (same y (omega arith)) ∙ s .before y a l;
+    at = λ l. sym (same r l) ∙ s .at l;
+  }
+    where
+      same : (p : ℕ) → p < h * w → badBy w h t (seen w st scratch) low up ring p ≡ badHere w h q low up ring p
+      same p l = by-near-plane w h q t (seen w st scratch) low up ring p e (scratch-seen w h st z (near w h q low) scratch (d .is) p l)
 
 -- the largest ring that is near by itself: the root of half the bound
 pub trust-small : (q r : ℕ) → q ≤ 1024 → r ≡ root (q / 2) → r ≤ 32

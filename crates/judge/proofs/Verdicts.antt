@@ -1,6 +1,6 @@
 -- From the refusals' tests, and from what the three searches found, to the answer.
 use mathlib.Core.Path.{_≡_, refl, sym, ap, subst, _∙_}
-use mathlib.Core.Bool.{true, not}
+use mathlib.Core.Bool.{false, true, not}
 use mathlib.Core.List.{List, _++_, append-assoc}
 use Prim.Native.Nat.{ℕ, _-_, _*_, _/_, _<_, _≤_}
 use native.Mathlib.Nat.{mul-le-mul, div-le-self}
@@ -9,7 +9,7 @@ use lib.Dec.{eqb}
 use lib.ListN.{length}
 use borrow.Author.Tests.{eq-eqb, ne-eqb, eqb-true, not-false}
 use Rattle.rules.specs.Tools.{nothing, found, Case, refusal}
-use Rattle.rules.specs.Images.{Stack, rowBytes, pixel, rowsOf, stackBytes, ringsIn, ringAt}
+use Rattle.rules.specs.Images.{Stack, rowBytes, pixel, rowsOf, stackBytes, ringsIn, ringAt, paddingSet}
 use Rattle.rules.specs.Reach.{square, boundOf, reachOf}
 use Rattle.rules.specs.Judging.{overlap, badRing, unheld, firstIn, placeOf, tell, verdict, verdictOf}
 use Rattle.rules.specs.Calls.{reachCases, settingCases, lengthCases, judgeCases, judgeAnswer}
@@ -174,7 +174,11 @@ pixels-most s r = mul-le-mul (r .n-high) (mul-le-mul (r .h-high) (r .w-high))
 
 -- what is known of an input that is not refused
 pub verdict-ready : (s : Settings) (part sup rings : List ℕ) → refusal (judgeCases s part sup (length rings)) ≡ 0 →
-    Ranged s × ((length part ≡ stackBytes s) × ((length sup ≡ stackBytes s) × (length rings ≡ ringsIn s)))
+    Ranged s × ((length part ≡ stackBytes s) × ((length sup ≡ stackBytes s) × ((paddingSet (s .w) (rowsOf s) part ≡ false) × (length rings ≡ ringsIn s))))
 verdict-ready s part sup rings e =
     let f = fine-out s part sup (length rings) e in
-    (ranged s (f .settings), (f .part-length, (f .sup-length, f .ring-count)))
+    (ranged s (f .settings), (f .part-length, (f .sup-length, (f .part-clear, f .ring-count))))
+
+pub part-clear : (s : Settings) (part : List ℕ) → paddingSet (s .w) (rowsOf s) part ≡ false → paddingSet (s .w) (s .n * s .h) part ≡ false
+unfolding rowsOf
+part-clear s part e = e

@@ -5,9 +5,10 @@ use mathlib.Core.List.{List, [], _∷_}
 use Prim.Native.Nat.{ℕ, _+_, _-_, _*_, _/_, _%_, _≤_, _<_}
 use lib.Dec.{leb, ltb, eqb}
 use lib.ListN.{getD}
-use Rattle.rules.specs.Tools.{some, Case, _when_}
-use Rattle.rules.specs.Images.{Plane, Stack, rowBytes, bitAt, rowsOf, paddingSet}
+use Rattle.rules.specs.Tools.{Case, _when_}
+use Rattle.rules.specs.Images.{Plane, Stack, bitAt, rowsOf, paddingSet}
 use Rattle.rules.specs.declared.Settings.{Settings}
+use Rattle.image.specs.Rows.{packed}
 use Rattle.rules.specs.Planning.{shadow, near, seeds, reached, touch, source, touching, fits}
 
 -- r is the first of a, a + 1, .., n - 1 that passes; n where none does
@@ -25,10 +26,6 @@ flat w h f x = f (x / (h * w)) (x % (h * w))
 unfoldable pub bitIn : List ℕ → ℕ → ℕ → Bool
 bitIn s at c = bitAt (getD s (at + c / 8) 0) (c % 8)
 
--- the pixels of the bytes of one plane
-unfoldable pub planeOf : ℕ → List ℕ → Plane
-planeOf w s p = bitIn s (p / w * rowBytes w) (p % w)
-
 -- overlap, bad rings and unheld pixels of one plane, or of one pair of them: what `overlap`, `badRing` and `unheld` say of it
 unfoldable pub overlapHere : Plane → Plane → Plane
 overlapHere part sup p = sup p && part p
@@ -36,11 +33,11 @@ overlapHere part sup p = sup p && part p
 unfoldable pub badHere : ℕ → ℕ → ℕ → Plane → Plane → (ℕ → ℕ) → Plane
 badHere w h q low up ring p = ltb 0 (ring p) && not (fits (h * w) (touch w) (reached w h q low up) (seeds low up) ring (ring p - 1) p)
 
--- the same where rings up to t are taken for near
-unfoldable pub badBeyond : ℕ → ℕ → ℕ → ℕ → Plane → Plane → (ℕ → ℕ) → Plane
-badBeyond w h q t low up ring p =
+-- the same where rings up to t, and the pixels of `close`, are taken for near
+unfoldable pub badBy : ℕ → ℕ → ℕ → Plane → Plane → Plane → (ℕ → ℕ) → Plane
+badBy w h t close low up ring p =
     ltb 0 (ring p)
-    && not (shadow low up p && (leb (ring p) t || near w h q low p) && touching (h * w) (touch w) (source (seeds low up) ring (ring p - 1)) p)
+    && not (shadow low up p && (leb (ring p) t || close p) && touching (h * w) (touch w) (source (seeds low up) ring (ring p - 1)) p)
 
 unfoldable pub unheldHere : Plane → Plane → Plane → Plane → (ℕ → ℕ) → Plane
 unheldHere low up below above ring p = (up p || above p) && not (low p || below p) && eqb (ring p) 0
@@ -55,11 +52,7 @@ unheldIn low up below above rings at x c =
 
 -- what a pixel of ring k must touch
 unfoldable pub lender : ℕ → List ℕ → List ℕ → List ℕ → ℕ → Plane
-lender w low up rings k = source (seeds (planeOf w low) (planeOf w up)) (λ o. getD rings o 0) (k - 1)
-
--- a pixel of the row is filled, from column `from` on and before `to`
-unfoldable pub hasIn : List ℕ → ℕ → ℕ → ℕ → Bool
-hasIn s at from to = some to λ x. leb from x && bitIn s at x
+lender w low up rings k = source (seeds (packed w low) (packed w up)) (λ o. getD rings o 0) (k - 1)
 
 -- the sizes of a plane
 pub record Sized (w h : ℕ) : Type 0 where

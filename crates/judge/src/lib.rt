@@ -8,14 +8,16 @@ ghost use Prim.Native.Nat.{ℕ, suc, _+_, _-_, _*_, _/_, _%_, _^_, _<_, _≤_, m
 ghost use lib.Dec.{leb, ltb, eqb};
 ghost use lib.ListN.{length, getD};
 ghost use Rattle.rules.specs.Tools.{refusal};
-ghost use Rattle.rules.specs.Images.{rowBytes, bitAt, pixel, stackBytes, ringsIn, ringAt};
+ghost use Rattle.rules.specs.Images.{rowBytes, bitAt, pixel, rowsOf, stackBytes, paddingSet, ringsIn, ringAt};
 ghost use Rattle.rules.specs.Reach.{boundOf};
 ghost use Rattle.rules.specs.Planning.{near, touch, touching};
 ghost use Rattle.rules.specs.Judging.{overlap, badRing, unheld, placeOf, verdictOf};
 ghost use Rattle.rules.specs.Calls.{lengthCases, judgeCases, judgeAnswer};
 ghost use Rattle.laws.specs.Limits.{Ranged};
 ghost use Rattle.laws.specs.Discs.{Halves};
-ghost use Rattle.judge.specs.Search.{Least, flat, bitIn, planeOf, overlapHere, badHere, badBeyond, unheldHere, overlapIn, unheldIn, lender, hasIn, Sized, padCases};
+ghost use Rattle.image.specs.Scratch.{seen, Ready, Drawn};
+ghost use Rattle.image.specs.Rows.{packed, Clean};
+ghost use Rattle.judge.specs.Search.{Least, flat, bitIn, overlapHere, badHere, badBy, unheldHere, overlapIn, unheldIn, lender, Sized, padCases};
 
 fn smaller(a: usize, b: usize) -> usize
     ensures { λ d. ⌜ d ≡ min a b ⌝ }
@@ -69,9 +71,6 @@ fn bare_bit(m: u8, rings: &[u16], x: usize, to: usize) -> usize
     requires { ⌜ (to ≤ 8) × (x + to ≤ length (now rings)) ⌝ }
     ensures { λ r. ⌜ Least 0 to (λ k. bitAt m k && eqb (getD (now (rings .entry)) (x + k) 0) 0) r ⌝ }
 {
-    if m == 0 {
-        return to;
-    }
     let mut k = 0;
     while k < to {
         if bare(m, rings[x + k], k) {
@@ -127,7 +126,7 @@ fn overlap_row(part: &[u8], sup: &[u8], at: usize, w: usize) -> usize
 // The first pixel of a plane that is in both. A plane without one is passed over by whole bytes.
 fn overlap_plane(part: &[u8], sup: &[u8], w: usize, h: usize) -> usize
     requires { ⌜ Sized w h × ((length (now part) ≡ h * rowBytes w) × (length (now sup) ≡ h * rowBytes w)) ⌝ }
-    ensures { λ r. ⌜ Least 0 (h * w) (overlapHere (planeOf w (now (part .entry))) (planeOf w (now (sup .entry)))) r ⌝ }
+    ensures { λ r. ⌜ Least 0 (h * w) (overlapHere (packed w (now (part .entry))) (packed w (now (sup .entry)))) r ⌝ }
 {
     let rb = limits::row_bytes(w);
     if apart(part, sup, h * rb) {
@@ -213,11 +212,13 @@ fn unheld_row(
     let mut c = 0;
     let mut b = at;
     while c < w {
-        let end = smaller(w - c, 8);
         let m = hanging(up[b], above[b], low[b], below[b]);
-        let k = bare_bit(m, rings, x + c, end);
-        if k < end {
-            return c + k;
+        if m != 0 {
+            let end = smaller(w - c, 8);
+            let k = bare_bit(m, rings, x + c, end);
+            if k < end {
+                return c + k;
+            }
         }
         c += 8;
         b += 1;
@@ -237,7 +238,7 @@ fn unheld_plane(
 ) -> usize
     requires fits { ⌜ Sized w h × (length (now rings) ≡ h * w) ⌝ }
     requires planes { ⌜ ((length (now low) ≡ h * rowBytes w) × (length (now up) ≡ h * rowBytes w)) × ((length (now below) ≡ h * rowBytes w) × (length (now above) ≡ h * rowBytes w)) ⌝ }
-    ensures { λ r. ⌜ Least 0 (h * w) (unheldHere (planeOf w (now (low .entry))) (planeOf w (now (up .entry))) (planeOf w (now (below .entry))) (planeOf w (now (above .entry))) (λ p. getD (now (rings .entry)) p 0)) r ⌝ }
+    ensures { λ r. ⌜ Least 0 (h * w) (unheldHere (packed w (now (low .entry))) (packed w (now (up .entry))) (packed w (now (below .entry))) (packed w (now (above .entry))) (λ p. getD (now (rings .entry)) p 0)) r ⌝ }
 {
     let rb = limits::row_bytes(w);
     if held(low, up, below, above, 0, h * rb) {
@@ -290,98 +291,6 @@ fn unheld_at(part: &[u8], sup: &[u8], rings: &[u16], w: usize, h: usize, n: usiz
         i += 1;
     }
     x
-}
-
-// ---- near
-
-// Whether a pixel of the row is filled, from column c on, where a byte starts, and before `to`.
-fn rest_has(s: &[u8], at: usize, c: usize, to: usize) -> bool
-    requires { ⌜ (c % 8 ≡ 0) × ((to ≤ 256) × (at + rowBytes to ≤ length (now s))) ⌝ }
-    ensures { λ b. ⌜ b ≡ hasIn (now (s .entry)) at c to ⌝ }
-{
-    if to <= c {
-        return false;
-    }
-    let mut x = c;
-    let mut b = at + c / 8;
-    while x + 8 <= to {
-        if bit_from(s[b], 0, 8) < 8 {
-            return true;
-        }
-        x += 8;
-        b += 1;
-    }
-    if x < to {
-        let end = to - x;
-        return bit_from(s[b], 0, end) < end;
-    }
-    false
-}
-
-// Whether a pixel of the row is filled, from column `from` on and before `to`.
-fn row_has(s: &[u8], at: usize, from: usize, to: usize) -> bool
-    requires { ⌜ (to ≤ 256) × (at + rowBytes to ≤ length (now s)) ⌝ }
-    ensures { λ b. ⌜ b ≡ hasIn (now (s .entry)) at from to ⌝ }
-{
-    if to <= from {
-        return false;
-    }
-    let k = from % 8;
-    let end = smaller(to - (from - k), 8);
-    if bit_from(s[at + from / 8], k, end) < end {
-        return true;
-    }
-    rest_has(s, at, from - k + 8, to)
-}
-
-// The same of row r - d, where there is one.
-fn row_up(low: &[u8], rb: usize, r: usize, d: usize, from: usize, to: usize) -> bool
-    requires { ⌜ (rb ≤ 32) × ((r < 256) × ((to ≤ 256) × (rowBytes to ≤ rb × (r * rb + rb ≤ length (now low))))) ⌝ }
-    ensures { λ b. ⌜ b ≡ (leb d r && hasIn (now (low .entry)) ((r - d) * rb) from to) ⌝ }
-{
-    if r < d {
-        return false;
-    }
-    row_has(low, (r - d) * rb, from, to)
-}
-
-// The same of row r + d, where there is one; but not of row r itself, which `row_up` looks at.
-fn row_down(low: &[u8], rb: usize, r: usize, h: usize, d: usize, from: usize, to: usize) -> bool
-    requires { ⌜ (rb ≤ 32) × ((h ≤ 256) × ((r + d < 1000) × ((to ≤ 256) × (rowBytes to ≤ rb × (h * rb ≤ length (now low)))))) ⌝ }
-    ensures { λ b. ⌜ b ≡ (ltb 0 d && (ltb (r + d) h && hasIn (now (low .entry)) ((r + d) * rb) from to)) ⌝ }
-{
-    if d == 0 {
-        return false;
-    }
-    if h <= r + d {
-        return false;
-    }
-    row_has(low, (r + d) * rb, from, to)
-}
-
-// Whether the pixel in row r and column c is near the lower part: from its own row outward, by the half-widths of the disc.
-fn near_at(low: &[u8], half: &[usize], w: usize, h: usize, r: usize, c: usize, q: usize) -> bool
-    requires fits { ⌜ Sized w h × ((r < h) × (c < w)) ⌝ }
-    requires plane { ⌜ length (now low) ≡ h * rowBytes w ⌝ }
-    requires disc { ⌜ Halves q (now half) ⌝ }
-    ensures { λ b. ⌜ b ≡ near w h q (planeOf w (now (low .entry))) (r * w + c) ⌝ }
-{
-    let rb = limits::row_bytes(w);
-    let far = half[0];
-    let mut d = 0;
-    while d <= far {
-        let side = half[d];
-        let from = less(c, side);
-        let to = smaller(c + side + 1, w);
-        if row_up(low, rb, r, d, from, to) {
-            return true;
-        }
-        if row_down(low, rb, r, h, d, from, to) {
-            return true;
-        }
-        d += 1;
-    }
-    false
 }
 
 // ---- bad rings
@@ -468,27 +377,27 @@ fn touches(
     found
 }
 
-// Whether the pixel may not carry its ring k. A ring of at most t is taken for near.
+// Whether the pixel may not carry its ring k. A ring of at most t, and a pixel of `close`, is taken for near.
 fn bad(
     low: &[u8],
     up: &[u8],
     rings: &[u16],
-    half: &[usize],
+    close: &[u8],
     w: usize,
     h: usize,
     r: usize,
     c: usize,
-    q: usize,
     t: u16,
     k: u16,
 ) -> bool
     requires fits { ⌜ (0 < k) × (Sized w h × ((r < h) × (c < w))) ⌝ }
     requires planes { ⌜ (length (now rings) ≡ h * w) × ((length (now low) ≡ h * rowBytes w) × (length (now up) ≡ h * rowBytes w)) ⌝ }
     requires own { ⌜ k ≡ getD (now rings) (r * w + c) 0 ⌝ }
-    requires disc { ⌜ Halves q (now half) ⌝ }
-    ensures { λ b. ⌜ b ≡ badBeyond w h q t (planeOf w (now (low .entry))) (planeOf w (now (up .entry))) (λ o. getD (now (rings .entry)) o 0) (r * w + c) ⌝ }
+    requires scratch { ⌜ 8704 ≤ length (now close) ⌝ }
+    ensures { λ b. ⌜ b ≡ badBy w h t (seen w (rowBytes w + 1) (now (close .entry))) (packed w (now (low .entry))) (packed w (now (up .entry))) (λ o. getD (now (rings .entry)) o 0) (r * w + c) ⌝ }
 {
-    let at = r * limits::row_bytes(w);
+    let rb = limits::row_bytes(w);
+    let at = r * rb;
     if !pixel_at(up, at, c) {
         return true;
     }
@@ -501,63 +410,85 @@ fn bad(
     if k <= t {
         return false;
     }
-    !near_at(low, half, w, h, r, c, q)
+    !pixel_at(close, (r + 1) * (rb + 1), c)
 }
 
-// The first bad ring of a row. A row without rings is passed over.
+// The first bad ring of a row from column a on and before `to`; or `to`.
+fn bad_from(
+    low: &[u8],
+    up: &[u8],
+    rings: &[u16],
+    close: &[u8],
+    w: usize,
+    h: usize,
+    r: usize,
+    a: usize,
+    to: usize,
+    t: u16,
+) -> usize
+    requires fits { ⌜ Sized w h × ((r < h) × ((a ≤ to) × (to ≤ w))) ⌝ }
+    requires planes { ⌜ (length (now rings) ≡ h * w) × ((length (now low) ≡ h * rowBytes w) × (length (now up) ≡ h * rowBytes w)) ⌝ }
+    requires scratch { ⌜ 8704 ≤ length (now close) ⌝ }
+    ensures { λ s. ⌜ Least a to (λ c. badBy w h t (seen w (rowBytes w + 1) (now (close .entry))) (packed w (now (low .entry))) (packed w (now (up .entry))) (λ o. getD (now (rings .entry)) o 0) (r * w + c)) s ⌝ }
+{
+    let x = r * w;
+    let mut c = a;
+    while c < to {
+        let k = rings[x + c];
+        if k != 0 {
+            if bad(low, up, rings, close, w, h, r, c, t, k) {
+                return c;
+            }
+        }
+        c += 1;
+    }
+    to
+}
+
+// The first bad ring of a row. A row without rings is passed over, and so are eight columns without one.
 fn bad_row(
     low: &[u8],
     up: &[u8],
     rings: &[u16],
-    half: &[usize],
+    close: &[u8],
     w: usize,
     h: usize,
     r: usize,
-    q: usize,
     t: u16,
 ) -> usize
     requires fits { ⌜ Sized w h × (r < h) ⌝ }
     requires planes { ⌜ (length (now rings) ≡ h * w) × ((length (now low) ≡ h * rowBytes w) × (length (now up) ≡ h * rowBytes w)) ⌝ }
-    requires disc { ⌜ Halves q (now half) ⌝ }
-    ensures { λ s. ⌜ Least 0 w (λ c. badBeyond w h q t (planeOf w (now (low .entry))) (planeOf w (now (up .entry))) (λ o. getD (now (rings .entry)) o 0) (r * w + c)) s ⌝ }
+    requires scratch { ⌜ 8704 ≤ length (now close) ⌝ }
+    ensures { λ s. ⌜ Least 0 w (λ c. badBy w h t (seen w (rowBytes w + 1) (now (close .entry))) (packed w (now (low .entry))) (packed w (now (up .entry))) (λ o. getD (now (rings .entry)) o 0) (r * w + c)) s ⌝ }
 {
     let x = r * w;
     if quiet(rings, x, w) {
         return w;
     }
     let mut c = 0;
-    while c < w {
-        let k = rings[x + c];
-        if k != 0 {
-            if bad(low, up, rings, half, w, h, r, c, q, t, k) {
-                return c;
+    while c + 8 <= w {
+        if !quiet(rings, x + c, 8) {
+            let b = bad_from(low, up, rings, close, w, h, r, c, c + 8, t);
+            if b < c + 8 {
+                return b;
             }
         }
-        c += 1;
+        c += 8;
     }
-    w
+    bad_from(low, up, rings, close, w, h, r, c, w, t)
 }
 
-// The first bad ring of a pair, where rings of at most t are taken for near.
-fn bad_beyond(
-    low: &[u8],
-    up: &[u8],
-    rings: &[u16],
-    half: &[usize],
-    w: usize,
-    h: usize,
-    q: usize,
-    t: u16,
-) -> usize
+// The first bad ring of a pair, where rings of at most t, and the pixels of `close`, are taken for near.
+fn bad_by(low: &[u8], up: &[u8], rings: &[u16], close: &[u8], w: usize, h: usize, t: u16) -> usize
     requires fits { ⌜ Sized w h ⌝ }
     requires planes { ⌜ (length (now rings) ≡ h * w) × ((length (now low) ≡ h * rowBytes w) × (length (now up) ≡ h * rowBytes w)) ⌝ }
-    requires disc { ⌜ Halves q (now half) ⌝ }
-    ensures { λ s. ⌜ Least 0 (h * w) (badBeyond w h q t (planeOf w (now (low .entry))) (planeOf w (now (up .entry))) (λ o. getD (now (rings .entry)) o 0)) s ⌝ }
+    requires scratch { ⌜ 8704 ≤ length (now close) ⌝ }
+    ensures { λ s. ⌜ Least 0 (h * w) (badBy w h t (seen w (rowBytes w + 1) (now (close .entry))) (packed w (now (low .entry))) (packed w (now (up .entry))) (λ o. getD (now (rings .entry)) o 0)) s ⌝ }
 {
     let mut x = 0;
     let mut r = 0;
     while r < h {
-        let c = bad_row(low, up, rings, half, w, h, r, q, t);
+        let c = bad_row(low, up, rings, close, w, h, r, t);
         if c < w {
             return x + c;
         }
@@ -567,37 +498,75 @@ fn bad_beyond(
     x
 }
 
+// The pixels near the lower part, into `close`. lower, wide and temp are scratch.
+fn near_of(
+    low: &[u8],
+    close: &mut [u8],
+    lower: &mut [u8],
+    wide: &mut [u8],
+    temp: &mut [u8],
+    mask: &[u8],
+    half: &[usize],
+    w: usize,
+    h: usize,
+    q: usize,
+)
+    requires fits { ⌜ Sized w h × Clean w h (now low) ⌝ }
+    requires disc { ⌜ Halves q (now half) × Drawn w h (rowBytes w + 1) (λ p. true) (now mask) ⌝ }
+    requires scratch { ⌜ Ready w h (rowBytes w + 1) (now close) × (Ready w h (rowBytes w + 1) (now lower) × (Ready w h (rowBytes w + 1) (now wide) × Ready w h (rowBytes w + 1) (now temp))) ⌝ }
+    ensures { λ _. ⌜ Drawn w h (rowBytes w + 1) (near w h q (packed w (now (low .entry)))) (now (close .exit)) ⌝ }
+    ensures { λ _. ⌜ Ready w h (rowBytes w + 1) (now (lower .exit)) × (Ready w h (rowBytes w + 1) (now (wide .exit)) × Ready w h (rowBytes w + 1) (now (temp .exit))) ⌝ }
+{
+    let st = limits::row_bytes(w) + 1;
+    image::rows::read_plane(low, lower, w, h, st);
+    image::nearness::near_plane(lower, close, wide, temp, mask, half, w, h, st, q);
+}
+
 // The first bad ring of a pair. A ring plane without rings is passed over. Rings up to t are near by themselves where every ring
-// has one to lean on; so only where something is amiss all are measured, to find the first.
+// has one to lean on: only a pair with larger rings, or one where something is amiss, has its near plane made. `none` is empty.
 fn bad_plane(
     low: &[u8],
     up: &[u8],
     rings: &[u16],
+    none: &[u8],
+    close: &mut [u8],
+    lower: &mut [u8],
+    wide: &mut [u8],
+    temp: &mut [u8],
+    mask: &[u8],
     half: &[usize],
     w: usize,
     h: usize,
     q: usize,
     t: u16,
 ) -> usize
-    requires fits { ⌜ Sized w h × (2 * (t * t) ≤ q) ⌝ }
-    requires planes { ⌜ (length (now rings) ≡ h * w) × ((length (now low) ≡ h * rowBytes w) × (length (now up) ≡ h * rowBytes w)) ⌝ }
-    requires disc { ⌜ Halves q (now half) ⌝ }
-    ensures { λ s. ⌜ Least 0 (h * w) (badHere w h q (planeOf w (now (low .entry))) (planeOf w (now (up .entry))) (λ o. getD (now (rings .entry)) o 0)) s ⌝ }
+    requires fits { ⌜ (Sized w h × (2 * (t * t) ≤ q)) × (Clean w h (now low) × ((length (now rings) ≡ h * w) × (length (now up) ≡ h * rowBytes w))) ⌝ }
+    requires disc { ⌜ Halves q (now half) × (Drawn w h (rowBytes w + 1) (λ p. true) (now mask) × Drawn w h (rowBytes w + 1) (λ p. false) (now none)) ⌝ }
+    requires scratch { ⌜ Ready w h (rowBytes w + 1) (now close) × (Ready w h (rowBytes w + 1) (now lower) × (Ready w h (rowBytes w + 1) (now wide) × Ready w h (rowBytes w + 1) (now temp))) ⌝ }
+    ensures { λ s. ⌜ Least 0 (h * w) (badHere w h q (packed w (now (low .entry))) (packed w (now (up .entry))) (λ o. getD (now (rings .entry)) o 0)) s ⌝ }
+    ensures { λ _. ⌜ Ready w h (rowBytes w + 1) (now (close .exit)) × (Ready w h (rowBytes w + 1) (now (lower .exit)) × (Ready w h (rowBytes w + 1) (now (wide .exit)) × Ready w h (rowBytes w + 1) (now (temp .exit)))) ⌝ }
 {
     let area = h * w;
     if quiet(rings, 0, area) {
         return area;
     }
-    if area <= bad_beyond(low, up, rings, half, w, h, q, t) {
+    if area <= bad_by(low, up, rings, none, w, h, t) {
         return area;
     }
-    bad_beyond(low, up, rings, half, w, h, q, 0)
+    near_of(low, close, lower, wide, temp, mask, half, w, h, q);
+    bad_by(low, up, rings, close, w, h, 0)
 }
 
 // The first bad ring of the stack.
 fn bad_at(
     part: &[u8],
     rings: &[u16],
+    none: &[u8],
+    close: &mut [u8],
+    lower: &mut [u8],
+    wide: &mut [u8],
+    temp: &mut [u8],
+    mask: &[u8],
     half: &[usize],
     w: usize,
     h: usize,
@@ -605,8 +574,9 @@ fn bad_at(
     q: usize,
     t: u16,
 ) -> usize
-    requires fits { ⌜ (Sized w h × ((1 ≤ n) × (n ≤ 512))) × ((length (now part) ≡ n * h * rowBytes w) × (length (now rings) ≡ (n - 1) * (h * w))) ⌝ }
-    requires disc { ⌜ Halves q (now half) × (2 * (t * t) ≤ q) ⌝ }
+    requires fits { ⌜ (Sized w h × ((1 ≤ n) × (n ≤ 512))) × ((length (now part) ≡ n * h * rowBytes w) × ((paddingSet w (n * h) (now part) ≡ false) × (length (now rings) ≡ (n - 1) * (h * w)))) ⌝ }
+    requires disc { ⌜ (Halves q (now half) × (2 * (t * t) ≤ q)) × (Drawn w h (rowBytes w + 1) (λ p. true) (now mask) × Drawn w h (rowBytes w + 1) (λ p. false) (now none)) ⌝ }
+    requires scratch { ⌜ Ready w h (rowBytes w + 1) (now close) × (Ready w h (rowBytes w + 1) (now lower) × (Ready w h (rowBytes w + 1) (now wide) × Ready w h (rowBytes w + 1) (now temp))) ⌝ }
     ensures { λ s. ⌜ Least 0 ((n - 1) * (h * w)) (flat w h (badRing w h (λ (i : ℕ). q) (pixel w h (now (part .entry))) (ringAt w h (now (rings .entry))))) s ⌝ }
 {
     let bytes = h * limits::row_bytes(w);
@@ -623,6 +593,12 @@ fn bad_at(
             &part[at..mid],
             &part[mid..end],
             &rings[x..next],
+            none,
+            close,
+            lower,
+            wide,
+            temp,
+            mask,
             half,
             w,
             h,
@@ -709,32 +685,54 @@ fn narrow(x: usize) -> u16
     x as u16
 }
 
-// The first bad ring of the stack, with the half-widths of the disc within reach.
+// The first bad ring of the stack, for the bound q on squared distances: with the half-widths of the disc, and room for planes.
+fn bad_within(part: &[u8], rings: &[u16], w: usize, h: usize, n: usize, q: usize) -> usize
+    requires fits { ⌜ (Sized w h × ((1 ≤ n) × ((n ≤ 512) × (q ≤ 1024)))) × ((length (now part) ≡ n * h * rowBytes w) × ((paddingSet w (n * h) (now part) ≡ false) × (length (now rings) ≡ (n - 1) * (h * w)))) ⌝ }
+    ensures { λ s. ⌜ Least 0 ((n - 1) * (h * w)) (flat w h (badRing w h (λ (i : ℕ). q) (pixel w h (now (part .entry))) (ringAt w h (now (rings .entry))))) s ⌝ }
+{
+    let st = limits::row_bytes(w) + 1;
+    let t = narrow(roots::root(q / 2));
+    let mut half = [0usize; 33];
+    roots::halves(q, &mut half);
+    let mut mask = [0u8; 8704];
+    image::full::full_plane(&mut mask, w, h, st);
+    let none = [0u8; 8704];
+    let mut close = [0u8; 8704];
+    let mut lower = [0u8; 8704];
+    let mut wide = [0u8; 8704];
+    let mut temp = [0u8; 8704];
+    bad_at(
+        part,
+        rings,
+        &none,
+        &mut close,
+        &mut lower,
+        &mut wide,
+        &mut temp,
+        &mask,
+        &half,
+        w,
+        h,
+        n,
+        q,
+        t,
+    )
+}
+
+// The first bad ring of a stack that is not refused.
 fn bad_ring(s: Settings, part: &[u8], rings: &[u16]) -> usize
-    requires { ⌜ Ranged s × ((length (now part) ≡ stackBytes s) × (length (now rings) ≡ ringsIn s)) ⌝ }
+    requires { ⌜ Ranged s × ((length (now part) ≡ stackBytes s) × ((paddingSet (s .w) (rowsOf s) (now part) ≡ false) × (length (now rings) ≡ ringsIn s))) ⌝ }
     ensures { λ r. ⌜ Least 0 ((s .n - 1) * (s .h * s .w)) (flat (s .w) (s .h) (badRing (s .w) (s .h) (boundOf s) (pixel (s .w) (s .h) (now (part .entry))) (ringAt (s .w) (s .h) (now (rings .entry))))) r ⌝ }
 {
     let pitch = s.pitch;
     let overhang = s.overhang;
     let reach = limits::reach_of(pitch, overhang);
-    let q = reach.0 * reach.0;
-    let mut half = [0usize; 33];
-    roots::halves(q, &mut half);
-    bad_at(
-        part,
-        rings,
-        &half,
-        s.w,
-        s.h,
-        s.n,
-        q,
-        narrow(roots::root(q / 2)),
-    )
+    bad_within(part, rings, s.w, s.h, s.n, reach.0 * reach.0)
 }
 
 // What is found in a stack that is not refused: overlap anywhere before any bad ring, and any bad ring before any unheld pixel.
 fn verdict(s: Settings, part: &[u8], support: &[u8], rings: &[u16]) -> Judged
-    requires { ⌜ Ranged s × ((length (now part) ≡ stackBytes s) × ((length (now support) ≡ stackBytes s) × (length (now rings) ≡ ringsIn s))) ⌝ }
+    requires { ⌜ Ranged s × ((length (now part) ≡ stackBytes s) × ((length (now support) ≡ stackBytes s) × ((paddingSet (s .w) (rowsOf s) (now part) ≡ false) × (length (now rings) ≡ ringsIn s)))) ⌝ }
     ensures { λ r. ⌜ r ≡ verdictOf (s .w) (s .h) (s .n) (boundOf s) (now (part .entry)) (now (support .entry)) (now (rings .entry)) ⌝ }
 {
     let w = s.w;

@@ -2,12 +2,15 @@ use native.Mathlib.Omega.{arith}
 use borrow.Author.Needs.{needs}
 use Prim.Native.Nat.{_*_, _+_, _-_, _<_, _≤_, ℕ}
 use mathlib.Core.Bool.{false}
-use mathlib.Core.Path.{_≡_, refl}
+use mathlib.Core.Path.{_∙_, _≡_, refl}
+use lib.ListN.{length}
+use Rattle.image.specs.Scratch.{Ready}
 use Rattle.judge.proofs.Finding.{stretch-hit, stretch-more}
 use Rattle.judge.proofs.Planes.{bad-plane}
-use Rattle.judge.proofs.Rows.{area-fit, bytes-fit, least-end, lower-length, pair-in, rings-length, stack-fit, stretch-end, stretch-in, stretch-next, upper-length}
+use Rattle.judge.proofs.Rows.{area-fit, bytes-fit, least-end, pair-in, pair-low, rings-length, stack-fit, stretch-end, stretch-in, stretch-next, upper-length}
+use Rattle.judge.proofs.Scratch.{cut-clean}
 use Rattle.judge.specs.Search.{flat}
-use Rattle.rules.specs.Images.{pixel, ringAt}
+use Rattle.rules.specs.Images.{pixel, ringAt, rowBytes}
 use Rattle.rules.specs.Judging.{badRing}
 use Rattle.judge.proofs.bad_at.Statement.{statement}
 use Rattle.judge.proofs.bad_at.Tie as tie
@@ -17,34 +20,34 @@ use Rattle.judge.proofs.bad_plane.Reads as bad-plane-reads
 use Rattle.limits.proofs.row_bytes.Reads as row-bytes-reads
 
 abbrev Inv-loop : tie.InvT-loop
-Inv-loop part rings half w h n q t bytes area pairs at₀ x₀ i₀ at x i = (i ≤ pairs) × (at ≡ i * bytes) × (x ≡ i * area) × ((y : ℕ) → y < x → y < (n - 1) * (h * w) → flat w h (badRing w h (λ (j : ℕ). q) (pixel w h part) (ringAt w h rings)) y ≡ false)
+Inv-loop part rings none close₀ lower₀ wide₀ temp₀ mask half w h n q t bytes area pairs at₀ x₀ i₀ close lower wide temp at x i = (i ≤ pairs) × (at ≡ i * bytes) × (x ≡ i * area) × ((y : ℕ) → y < x → y < (n - 1) * (h * w) → flat w h (badRing w h (λ (j : ℕ). q) (pixel w h part) (ringAt w h rings)) y ≡ false) × (Ready w h (rowBytes w + 1) close × (Ready w h (rowBytes w + 1) lower × (Ready w h (rowBytes w + 1) wide × Ready w h (rowBytes w + 1) temp))) × ((length close ≡ length close₀) × ((length lower ≡ length lower₀) × ((length wide ≡ length wide₀) × (length temp ≡ length temp₀))))
 
 abbrev μ-loop : tie.MeasureT-loop
-μ-loop part rings half w h n q t bytes area pairs at₀ x₀ i₀ at x i = pairs - i
+μ-loop part rings none close₀ lower₀ wide₀ temp₀ mask half w h n q t bytes area pairs at₀ x₀ i₀ close lower wide temp at x i = pairs - i
 
 row-bytes-requires : tie.Need-row-bytes-requires Inv-loop μ-loop
 row-bytes-requires c κs = search needs
 
 mul-bytes : tie.Need-mul-bytes Inv-loop μ-loop
-mul-bytes c = omega (arith, bytes-fit _ _ _ (c .before .before .before .before .pre .0 .0 .0) (c .row-bytes .ensures .1))
+mul-bytes c = omega (arith, bytes-fit _ _ _ (c .before .before .before .before .before .before .before .before .before .before .pre .0 .0 .0) (c .row-bytes .ensures .1))
 
 mul-area : tie.Need-mul-area Inv-loop μ-loop
-mul-area c = omega (arith, area-fit _ _ (c .before .before .before .before .pre .0 .0 .0))
+mul-area c = omega (arith, area-fit _ _ (c .before .before .before .before .before .before .before .before .before .before .pre .0 .0 .0))
 
 sub-pairs : tie.Need-sub-pairs Inv-loop μ-loop
 sub-pairs c = search needs
 
 loop-holds : tie.Need-loop-holds Inv-loop μ-loop
-loop-holds c = (omega arith, omega arith, omega arith, λ y a b. absurd (omega arith))
+loop-holds c = (omega arith, omega arith, omega arith, λ y a b. absurd (omega arith), c .before .before .before .before .before .before .before .before .before .before .pre .1 .1, (refl, (refl, (refl, refl))))
 
 add-mid : tie.Need-add-mid Inv-loop μ-loop
-add-mid c = omega (arith, pair-in (c .before .before .before .before .before .before .args .w) (c .before .before .before .before .before .before .args .h) (c .before .before .before .before .before .before .args .n) (c .before .loop .i) (c .before .loop .at) (c .before .before .before .before .before .before .args .h * c .before .before .row-bytes .result) (c .before .loop .x) (rw (c .before .before .row-bytes .ensures .0)) (c .before .loop .inv .1) (c .before .loop .inv .2) (c .loop-test .taken))
+add-mid c = omega (arith, pair-in (c .before .before .before .before .before .before .before .before .before .before .before .before .args .w) (c .before .before .before .before .before .before .before .before .before .before .before .before .args .h) (c .before .before .before .before .before .before .before .before .before .before .before .before .args .n) (c .before .loop .i) (c .before .loop .at) (c .before .before .before .before .before .before .before .before .before .before .before .before .args .h * c .before .before .row-bytes .result) (c .before .loop .x) (rw (c .before .before .row-bytes .ensures .0)) (c .before .loop .inv .1) (c .before .loop .inv .2) (c .loop-test .taken))
 
 add-end : tie.Need-add-end Inv-loop μ-loop
-add-end c = omega (arith, pair-in (c .before .before .before .before .before .before .args .w) (c .before .before .before .before .before .before .args .h) (c .before .before .before .before .before .before .args .n) (c .before .loop .i) (c .before .loop .at) (c .before .before .before .before .before .before .args .h * c .before .before .row-bytes .result) (c .before .loop .x) (rw (c .before .before .row-bytes .ensures .0)) (c .before .loop .inv .1) (c .before .loop .inv .2) (c .loop-test .taken))
+add-end c = omega (arith, pair-in (c .before .before .before .before .before .before .before .before .before .before .before .before .args .w) (c .before .before .before .before .before .before .before .before .before .before .before .before .args .h) (c .before .before .before .before .before .before .before .before .before .before .before .before .args .n) (c .before .loop .i) (c .before .loop .at) (c .before .before .before .before .before .before .before .before .before .before .before .before .args .h * c .before .before .row-bytes .result) (c .before .loop .x) (rw (c .before .before .row-bytes .ensures .0)) (c .before .loop .inv .1) (c .before .loop .inv .2) (c .loop-test .taken))
 
 add-next : tie.Need-add-next Inv-loop μ-loop
-add-next c = omega (arith, pair-in (c .before .before .before .before .before .before .args .w) (c .before .before .before .before .before .before .args .h) (c .before .before .before .before .before .before .args .n) (c .before .loop .i) (c .before .loop .at) (c .before .before .before .before .before .before .args .h * c .before .before .row-bytes .result) (c .before .loop .x) (rw (c .before .before .row-bytes .ensures .0)) (c .before .loop .inv .1) (c .before .loop .inv .2) (c .loop-test .taken))
+add-next c = omega (arith, pair-in (c .before .before .before .before .before .before .before .before .before .before .before .before .args .w) (c .before .before .before .before .before .before .before .before .before .before .before .before .args .h) (c .before .before .before .before .before .before .before .before .before .before .before .before .args .n) (c .before .loop .i) (c .before .loop .at) (c .before .before .before .before .before .before .before .before .before .before .before .before .args .h * c .before .before .row-bytes .result) (c .before .loop .x) (rw (c .before .before .row-bytes .ensures .0)) (c .before .loop .inv .1) (c .before .loop .inv .2) (c .loop-test .taken))
 
 sub-bad-plane : tie.Need-sub-bad-plane Inv-loop μ-loop
 sub-bad-plane c = search needs
@@ -53,7 +56,7 @@ part-bad-plane-start : tie.Need-part-bad-plane-start Inv-loop μ-loop
 part-bad-plane-start c = search needs
 
 part-bad-plane-end : tie.Need-part-bad-plane-end Inv-loop μ-loop
-part-bad-plane-end c = omega (arith, pair-in (c .before .before .before .before .before .before .args .w) (c .before .before .before .before .before .before .args .h) (c .before .before .before .before .before .before .args .n) (c .before .loop .i) (c .before .loop .at) (c .before .before .before .before .before .before .args .h * c .before .before .row-bytes .result) (c .before .loop .x) (rw (c .before .before .row-bytes .ensures .0)) (c .before .loop .inv .1) (c .before .loop .inv .2) (c .loop-test .taken))
+part-bad-plane-end c = omega (arith, pair-in (c .before .before .before .before .before .before .before .before .before .before .before .before .args .w) (c .before .before .before .before .before .before .before .before .before .before .before .before .args .h) (c .before .before .before .before .before .before .before .before .before .before .before .before .args .n) (c .before .loop .i) (c .before .loop .at) (c .before .before .before .before .before .before .before .before .before .before .before .before .args .h * c .before .before .row-bytes .result) (c .before .loop .x) (rw (c .before .before .row-bytes .ensures .0)) (c .before .loop .inv .1) (c .before .loop .inv .2) (c .loop-test .taken))
 
 sub-bad-plane-2 : tie.Need-sub-bad-plane-2 Inv-loop μ-loop
 sub-bad-plane-2 c = search needs
@@ -62,10 +65,10 @@ part-bad-plane-start-2 : tie.Need-part-bad-plane-start-2 Inv-loop μ-loop
 part-bad-plane-start-2 c = search needs
 
 part-bad-plane-end-2 : tie.Need-part-bad-plane-end-2 Inv-loop μ-loop
-part-bad-plane-end-2 c = omega (arith, pair-in (c .before .before .before .before .before .before .before .args .w) (c .before .before .before .before .before .before .before .args .h) (c .before .before .before .before .before .before .before .args .n) (c .before .before .loop .i) (c .before .before .loop .at) (c .before .before .before .before .before .before .before .args .h * c .before .before .before .row-bytes .result) (c .before .before .loop .x) (rw (c .before .before .before .row-bytes .ensures .0)) (c .before .before .loop .inv .1) (c .before .before .loop .inv .2) (c .before .loop-test .taken))
+part-bad-plane-end-2 c = omega (arith, pair-in (c .before .before .before .before .before .before .before .before .before .before .before .before .before .args .w) (c .before .before .before .before .before .before .before .before .before .before .before .before .before .args .h) (c .before .before .before .before .before .before .before .before .before .before .before .before .before .args .n) (c .before .before .loop .i) (c .before .before .loop .at) (c .before .before .before .before .before .before .before .before .before .before .before .before .before .args .h * c .before .before .before .row-bytes .result) (c .before .before .loop .x) (rw (c .before .before .before .row-bytes .ensures .0)) (c .before .before .loop .inv .1) (c .before .before .loop .inv .2) (c .before .loop-test .taken))
 
 mul-bad-plane : tie.Need-mul-bad-plane Inv-loop μ-loop
-mul-bad-plane c = omega (arith, pair-in (c .before .before .before .before .before .before .before .before .args .w) (c .before .before .before .before .before .before .before .before .args .h) (c .before .before .before .before .before .before .before .before .args .n) (c .before .before .before .loop .i) (c .before .before .before .loop .at) (c .before .before .before .before .before .before .before .before .args .h * c .before .before .before .before .row-bytes .result) (c .before .before .before .loop .x) (rw (c .before .before .before .before .row-bytes .ensures .0)) (c .before .before .before .loop .inv .1) (c .before .before .before .loop .inv .2) (c .before .before .loop-test .taken), stack-fit (c .before .before .before .before .before .before .before .before .args .n - 1) (c .before .before .before .before .before .before .before .before .args .h * c .before .before .before .before .before .before .before .before .args .w) 65536 (omega arith) (area-fit _ _ (c .before .before .before .before .before .before .before .before .pre .0 .0 .0)))
+mul-bad-plane c = omega (arith, pair-in (c .before .before .before .before .before .before .before .before .before .before .before .before .before .before .args .w) (c .before .before .before .before .before .before .before .before .before .before .before .before .before .before .args .h) (c .before .before .before .before .before .before .before .before .before .before .before .before .before .before .args .n) (c .before .before .before .loop .i) (c .before .before .before .loop .at) (c .before .before .before .before .before .before .before .before .before .before .before .before .before .before .args .h * c .before .before .before .before .row-bytes .result) (c .before .before .before .loop .x) (rw (c .before .before .before .before .row-bytes .ensures .0)) (c .before .before .before .loop .inv .1) (c .before .before .before .loop .inv .2) (c .before .before .loop-test .taken), stack-fit (c .before .before .before .before .before .before .before .before .before .before .before .before .before .before .args .n - 1) (c .before .before .before .before .before .before .before .before .before .before .before .before .before .before .args .h * c .before .before .before .before .before .before .before .before .before .before .before .before .before .before .args .w) 65536 (omega arith) (area-fit _ _ (c .before .before .before .before .before .before .before .before .before .before .before .before .before .before .pre .0 .0 .0)))
 
 sub-bad-plane-3 : tie.Need-sub-bad-plane-3 Inv-loop μ-loop
 sub-bad-plane-3 c = search needs
@@ -74,28 +77,52 @@ part-bad-plane-start-3 : tie.Need-part-bad-plane-start-3 Inv-loop μ-loop
 part-bad-plane-start-3 c = search needs
 
 part-bad-plane-end-3 : tie.Need-part-bad-plane-end-3 Inv-loop μ-loop
-part-bad-plane-end-3 c = omega (arith, pair-in (c .before .before .before .before .before .before .before .before .args .w) (c .before .before .before .before .before .before .before .before .args .h) (c .before .before .before .before .before .before .before .before .args .n) (c .before .before .before .loop .i) (c .before .before .before .loop .at) (c .before .before .before .before .before .before .before .before .args .h * c .before .before .before .before .row-bytes .result) (c .before .before .before .loop .x) (rw (c .before .before .before .before .row-bytes .ensures .0)) (c .before .before .before .loop .inv .1) (c .before .before .before .loop .inv .2) (c .before .before .loop-test .taken))
+part-bad-plane-end-3 c = omega (arith, pair-in (c .before .before .before .before .before .before .before .before .before .before .before .before .before .before .args .w) (c .before .before .before .before .before .before .before .before .before .before .before .before .before .before .args .h) (c .before .before .before .before .before .before .before .before .before .before .before .before .before .before .args .n) (c .before .before .before .loop .i) (c .before .before .before .loop .at) (c .before .before .before .before .before .before .before .before .before .before .before .before .before .before .args .h * c .before .before .before .before .row-bytes .result) (c .before .before .before .loop .x) (rw (c .before .before .before .before .row-bytes .ensures .0)) (c .before .before .before .loop .inv .1) (c .before .before .before .loop .inv .2) (c .before .before .loop-test .taken))
 
 bad-plane-requires : tie.Need-bad-plane-requires Inv-loop μ-loop
-bad-plane-requires c κs = ((c .before .before .before .before .before .before .before .before .before .pre .0 .0 .0, c .before .before .before .before .before .before .before .before .before .pre .1 .1), ((rings-length (c .before .before .before .before .before .before .before .before .before .args .w) (c .before .before .before .before .before .before .before .before .before .args .h) (c .before .before .before .before .before .before .before .before .before .args .n) (c .before .before .before .before .loop .i) (c .before .before .before .before .loop .at) (c .before .before .before .before .before .before .before .before .before .args .h * c .before .before .before .before .before .row-bytes .result) (c .before .before .before .before .loop .x) (rw (c .before .before .before .before .before .row-bytes .ensures .0)) (c .before .before .before .before .loop .inv .1) (c .before .before .before .before .loop .inv .2) (c .before .before .before .loop-test .taken) (c .before .before .before .before .before .before .before .before .before .args .rings .now) (c .before .before .before .before .before .before .before .before .before .pre .0 .1 .1), (lower-length (c .before .before .before .before .before .before .before .before .before .args .w) (c .before .before .before .before .before .before .before .before .before .args .h) (c .before .before .before .before .before .before .before .before .before .args .n) (c .before .before .before .before .loop .i) (c .before .before .before .before .loop .at) (c .before .before .before .before .before .before .before .before .before .args .h * c .before .before .before .before .before .row-bytes .result) (c .before .before .before .before .loop .x) (rw (c .before .before .before .before .before .row-bytes .ensures .0)) (c .before .before .before .before .loop .inv .1) (c .before .before .before .before .loop .inv .2) (c .before .before .before .loop-test .taken) (c .before .before .before .before .before .before .before .before .before .args .part .now) (c .before .before .before .before .before .before .before .before .before .pre .0 .1 .0), upper-length (c .before .before .before .before .before .before .before .before .before .args .w) (c .before .before .before .before .before .before .before .before .before .args .h) (c .before .before .before .before .before .before .before .before .before .args .n) (c .before .before .before .before .loop .i) (c .before .before .before .before .loop .at) (c .before .before .before .before .before .before .before .before .before .args .h * c .before .before .before .before .before .row-bytes .result) (c .before .before .before .before .loop .x) (rw (c .before .before .before .before .before .row-bytes .ensures .0)) (c .before .before .before .before .loop .inv .1) (c .before .before .before .before .loop .inv .2) (c .before .before .before .loop-test .taken) (c .before .before .before .before .before .before .before .before .before .args .part .now) (c .before .before .before .before .before .before .before .before .before .pre .0 .1 .0))), c .before .before .before .before .before .before .before .before .before .pre .1 .0))
+bad-plane-requires c κs = (((c .before .before .before .before .before .before .before .before .before .before .before .before .before .before .before .before .before .before .before .pre .0 .0 .0, c .before .before .before .before .before .before .before .before .before .before .before .before .before .before .before .before .before .before .before .pre .1 .0 .0 .1), (cut-clean (c .before .before .before .before .before .before .before .before .before .before .before .before .before .before .before .before .before .before .before .args .w) (c .before .before .before .before .before .before .before .before .before .before .before .before .before .before .before .before .before .before .before .args .h) (c .before .before .before .before .before .before .before .before .before .before .before .before .before .before .before .before .before .before .before .args .n) (c .before .before .before .before .before .before .before .before .loop .i) (c .before .before .before .before .before .before .before .before .loop .at) (c .before .before .before .before .before .before .before .before .before .before .before .before .before .before .before .before .before .before .before .args .h * c .before .before .before .before .before .before .before .before .before .row-bytes .result) (c .before .before .before .before .before .before .before .before .before .before .before .before .before .before .before .before .before .before .before .args .part .now) (c .before .before .before .before .before .before .before .before .loop .inv .1) (rw (c .before .before .before .before .before .before .before .before .before .row-bytes .ensures .0)) (pair-low (c .before .before .before .before .before .before .before .before .before .before .before .before .before .before .before .before .before .before .before .args .n) (c .before .before .before .before .before .before .before .before .loop .i) (c .before .before .before .before .before .before .before .loop-test .taken)) (c .before .before .before .before .before .before .before .before .before .before .before .before .before .before .before .before .before .before .before .pre .0 .1 .0) (c .before .before .before .before .before .before .before .before .before .before .before .before .before .before .before .before .before .before .before .pre .0 .1 .1 .0), (rings-length (c .before .before .before .before .before .before .before .before .before .before .before .before .before .before .before .before .before .before .before .args .w) (c .before .before .before .before .before .before .before .before .before .before .before .before .before .before .before .before .before .before .before .args .h) (c .before .before .before .before .before .before .before .before .before .before .before .before .before .before .before .before .before .before .before .args .n) (c .before .before .before .before .before .before .before .before .loop .i) (c .before .before .before .before .before .before .before .before .loop .at) (c .before .before .before .before .before .before .before .before .before .before .before .before .before .before .before .before .before .before .before .args .h * c .before .before .before .before .before .before .before .before .before .row-bytes .result) (c .before .before .before .before .before .before .before .before .loop .x) (rw (c .before .before .before .before .before .before .before .before .before .row-bytes .ensures .0)) (c .before .before .before .before .before .before .before .before .loop .inv .1) (c .before .before .before .before .before .before .before .before .loop .inv .2) (c .before .before .before .before .before .before .before .loop-test .taken) (c .before .before .before .before .before .before .before .before .before .before .before .before .before .before .before .before .before .before .before .args .rings .now) (c .before .before .before .before .before .before .before .before .before .before .before .before .before .before .before .before .before .before .before .pre .0 .1 .1 .1), upper-length (c .before .before .before .before .before .before .before .before .before .before .before .before .before .before .before .before .before .before .before .args .w) (c .before .before .before .before .before .before .before .before .before .before .before .before .before .before .before .before .before .before .before .args .h) (c .before .before .before .before .before .before .before .before .before .before .before .before .before .before .before .before .before .before .before .args .n) (c .before .before .before .before .before .before .before .before .loop .i) (c .before .before .before .before .before .before .before .before .loop .at) (c .before .before .before .before .before .before .before .before .before .before .before .before .before .before .before .before .before .before .before .args .h * c .before .before .before .before .before .before .before .before .before .row-bytes .result) (c .before .before .before .before .before .before .before .before .loop .x) (rw (c .before .before .before .before .before .before .before .before .before .row-bytes .ensures .0)) (c .before .before .before .before .before .before .before .before .loop .inv .1) (c .before .before .before .before .before .before .before .before .loop .inv .2) (c .before .before .before .before .before .before .before .loop-test .taken) (c .before .before .before .before .before .before .before .before .before .before .before .before .before .before .before .before .before .before .before .args .part .now) (c .before .before .before .before .before .before .before .before .before .before .before .before .before .before .before .before .before .before .before .pre .0 .1 .0)))), ((c .before .before .before .before .before .before .before .before .before .before .before .before .before .before .before .before .before .before .before .pre .1 .0 .0 .0, c .before .before .before .before .before .before .before .before .before .before .before .before .before .before .before .before .before .before .before .pre .1 .0 .1), c .before .before .before .before .before .before .before .before .loop .inv .4))
 
 add-result : tie.Need-add-result Inv-loop μ-loop
-add-result c = omega (arith, pair-in (c .before .before .before .before .before .before .before .before .before .before .before .args .w) (c .before .before .before .before .before .before .before .before .before .before .before .args .h) (c .before .before .before .before .before .before .before .before .before .before .before .args .n) (c .before .before .before .before .before .before .loop .i) (c .before .before .before .before .before .before .loop .at) (c .before .before .before .before .before .before .before .before .before .before .before .args .h * c .before .before .before .before .before .before .before .row-bytes .result) (c .before .before .before .before .before .before .loop .x) (rw (c .before .before .before .before .before .before .before .row-bytes .ensures .0)) (c .before .before .before .before .before .before .loop .inv .1) (c .before .before .before .before .before .before .loop .inv .2) (c .before .before .before .before .before .loop-test .taken))
+add-result c = omega (arith, pair-in (c .before .before .before .before .before .before .before .before .before .before .before .before .before .before .before .before .before .before .before .before .before .before .before .before .before .before .before .before .before .args .w) (c .before .before .before .before .before .before .before .before .before .before .before .before .before .before .before .before .before .before .before .before .before .before .before .before .before .before .before .before .before .args .h) (c .before .before .before .before .before .before .before .before .before .before .before .before .before .before .before .before .before .before .before .before .before .before .before .before .before .before .before .before .before .args .n) (c .before .before .before .before .before .before .before .before .before .before .before .before .before .before .before .before .before .before .loop .i) (c .before .before .before .before .before .before .before .before .before .before .before .before .before .before .before .before .before .before .loop .at) (c .before .before .before .before .before .before .before .before .before .before .before .before .before .before .before .before .before .before .before .before .before .before .before .before .before .before .before .before .before .args .h * c .before .before .before .before .before .before .before .before .before .before .before .before .before .before .before .before .before .before .before .row-bytes .result) (c .before .before .before .before .before .before .before .before .before .before .before .before .before .before .before .before .before .before .loop .x) (rw (c .before .before .before .before .before .before .before .before .before .before .before .before .before .before .before .before .before .before .before .row-bytes .ensures .0)) (c .before .before .before .before .before .before .before .before .before .before .before .before .before .before .before .before .before .before .loop .inv .1) (c .before .before .before .before .before .before .before .before .before .before .before .before .before .before .before .before .before .before .loop .inv .2) (c .before .before .before .before .before .before .before .before .before .before .before .before .before .before .before .before .before .loop-test .taken), stack-fit (c .before .before .before .before .before .before .before .before .before .before .before .before .before .before .before .before .before .before .before .before .before .before .before .before .before .before .before .before .before .args .n - 1) (c .before .before .before .before .before .before .before .before .before .before .before .before .before .before .before .before .before .before .before .before .before .before .before .before .before .before .before .before .before .args .h * c .before .before .before .before .before .before .before .before .before .before .before .before .before .before .before .before .before .before .before .before .before .before .before .before .before .before .before .before .before .args .w) 65536 (omega (arith, c .before .before .before .before .before .before .before .before .before .before .before .before .before .before .before .before .before .before .before .before .before .before .before .before .before .before .before .before .before .pre .0 .0 .1 .1)) (area-fit _ _ (c .before .before .before .before .before .before .before .before .before .before .before .before .before .before .before .before .before .before .before .before .before .before .before .before .before .before .before .before .before .pre .0 .0 .0)), c .if1 .taken)
+
+same-length : tie.Need-same-length Inv-loop μ-loop
+same-length c = c .before .before .before .before .before .before .before .before .before .bad-plane .kept .1 .1 .1 .1 .0 ∙ c .before .before .before .before .before .before .before .before .before .before .before .before .before .before .before .before .before .before .loop .inv .5 .0
+
+same-length-2 : tie.Need-same-length-2 Inv-loop μ-loop
+same-length-2 c = c .before .before .before .before .before .before .before .before .before .bad-plane .kept .1 .1 .1 .1 .1 .0 ∙ c .before .before .before .before .before .before .before .before .before .before .before .before .before .before .before .before .before .before .loop .inv .5 .1 .0
+
+same-length-3 : tie.Need-same-length-3 Inv-loop μ-loop
+same-length-3 c = c .before .before .before .before .before .before .before .before .before .bad-plane .kept .1 .1 .1 .1 .1 .1 .0 ∙ c .before .before .before .before .before .before .before .before .before .before .before .before .before .before .before .before .before .before .loop .inv .5 .1 .1 .0
+
+same-length-4 : tie.Need-same-length-4 Inv-loop μ-loop
+same-length-4 c = c .before .before .before .before .before .before .before .before .before .bad-plane .kept .1 .1 .1 .1 .1 .1 .1 .0 ∙ c .before .before .before .before .before .before .before .before .before .before .before .before .before .before .before .before .before .before .loop .inv .5 .1 .1 .1
 
 returns : tie.Need-returns Inv-loop μ-loop
-returns c = stretch-hit ((c .before .before .before .before .before .before .before .before .before .before .before .args .n - 1) * (c .before .before .before .before .before .before .before .before .before .before .before .args .h * c .before .before .before .before .before .before .before .before .before .before .before .args .w)) _ _ (c .before .before .before .before .before .before .loop .x) (c .before .before .before .before .before .before .before .before .before .before .before .args .h * c .before .before .before .before .before .before .before .before .before .before .before .args .w) (c .before .bad-plane .result) (c .before .before .before .before .before .before .loop .inv .3) (bad-plane (c .before .before .before .before .before .before .before .before .before .before .before .args .w) (c .before .before .before .before .before .before .before .before .before .before .before .args .h) (c .before .before .before .before .before .before .loop .i) (c .before .before .before .before .before .before .before .before .before .before .before .args .h * c .before .before .before .before .before .before .before .row-bytes .result) (c .before .before .before .before .before .before .before .before .before .before .before .args .h * c .before .before .before .before .before .before .before .before .before .before .before .args .w) (c .before .before .before .before .before .before .loop .at) (c .before .before .before .before .before .before .loop .x) _ _ _ (rw (c .before .before .before .before .before .before .before .row-bytes .ensures .0)) refl (c .before .before .before .before .before .before .loop .inv .1) (c .before .before .before .before .before .before .loop .inv .2) refl refl refl (λ (j : ℕ). c .before .before .before .before .before .before .before .before .before .before .before .args .q) (c .before .before .before .before .before .before .before .before .before .before .before .args .q) (c .before .before .before .before .before .before .before .before .before .before .before .args .part .now) (c .before .before .before .before .before .before .before .before .before .before .before .args .rings .now) refl) (c .before .bad-plane .ensures) (stretch-in (c .before .before .before .before .before .before .loop .i) (c .before .before .before .before .before .before .before .before .before .before .before .args .n - 1) (c .before .before .before .before .before .before .before .before .before .before .before .args .h * c .before .before .before .before .before .before .before .before .before .before .before .args .w) (c .before .before .before .before .before .before .loop .x) (c .before .before .before .before .before .before .loop .inv .2) (c .before .before .before .before .before .loop-test .taken)) (c .if1 .taken)
+returns c = stretch-hit ((c .before .before .before .before .before .before .before .before .before .before .before .before .before .before .before .before .before .before .before .before .before .before .before .before .before .before .before .before .before .args .n - 1) * (c .before .before .before .before .before .before .before .before .before .before .before .before .before .before .before .before .before .before .before .before .before .before .before .before .before .before .before .before .before .args .h * c .before .before .before .before .before .before .before .before .before .before .before .before .before .before .before .before .before .before .before .before .before .before .before .before .before .before .before .before .before .args .w)) _ _ (c .before .before .before .before .before .before .before .before .before .before .before .before .before .before .before .before .before .before .loop .x) (c .before .before .before .before .before .before .before .before .before .before .before .before .before .before .before .before .before .before .before .before .before .before .before .before .before .before .before .before .before .args .h * c .before .before .before .before .before .before .before .before .before .before .before .before .before .before .before .before .before .before .before .before .before .before .before .before .before .before .before .before .before .args .w) (c .before .before .before .before .before .before .before .before .before .bad-plane .result) (c .before .before .before .before .before .before .before .before .before .before .before .before .before .before .before .before .before .before .loop .inv .3) (bad-plane (c .before .before .before .before .before .before .before .before .before .before .before .before .before .before .before .before .before .before .before .before .before .before .before .before .before .before .before .before .before .args .w) (c .before .before .before .before .before .before .before .before .before .before .before .before .before .before .before .before .before .before .before .before .before .before .before .before .before .before .before .before .before .args .h) (c .before .before .before .before .before .before .before .before .before .before .before .before .before .before .before .before .before .before .loop .i) (c .before .before .before .before .before .before .before .before .before .before .before .before .before .before .before .before .before .before .before .before .before .before .before .before .before .before .before .before .before .args .h * c .before .before .before .before .before .before .before .before .before .before .before .before .before .before .before .before .before .before .before .row-bytes .result) (c .before .before .before .before .before .before .before .before .before .before .before .before .before .before .before .before .before .before .before .before .before .before .before .before .before .before .before .before .before .args .h * c .before .before .before .before .before .before .before .before .before .before .before .before .before .before .before .before .before .before .before .before .before .before .before .before .before .before .before .before .before .args .w) (c .before .before .before .before .before .before .before .before .before .before .before .before .before .before .before .before .before .before .loop .at) (c .before .before .before .before .before .before .before .before .before .before .before .before .before .before .before .before .before .before .loop .x) _ _ _ (rw (c .before .before .before .before .before .before .before .before .before .before .before .before .before .before .before .before .before .before .before .row-bytes .ensures .0)) refl (c .before .before .before .before .before .before .before .before .before .before .before .before .before .before .before .before .before .before .loop .inv .1) (c .before .before .before .before .before .before .before .before .before .before .before .before .before .before .before .before .before .before .loop .inv .2) refl refl refl (λ (j : ℕ). c .before .before .before .before .before .before .before .before .before .before .before .before .before .before .before .before .before .before .before .before .before .before .before .before .before .before .before .before .before .args .q) (c .before .before .before .before .before .before .before .before .before .before .before .before .before .before .before .before .before .before .before .before .before .before .before .before .before .before .before .before .before .args .q) (c .before .before .before .before .before .before .before .before .before .before .before .before .before .before .before .before .before .before .before .before .before .before .before .before .before .before .before .before .before .args .part .now) (c .before .before .before .before .before .before .before .before .before .before .before .before .before .before .before .before .before .before .before .before .before .before .before .before .before .before .before .before .before .args .rings .now) refl) (c .before .before .before .before .before .before .before .before .before .bad-plane .ensures .0) (stretch-in (c .before .before .before .before .before .before .before .before .before .before .before .before .before .before .before .before .before .before .loop .i) (c .before .before .before .before .before .before .before .before .before .before .before .before .before .before .before .before .before .before .before .before .before .before .before .before .before .before .before .before .before .args .n - 1) (c .before .before .before .before .before .before .before .before .before .before .before .before .before .before .before .before .before .before .before .before .before .before .before .before .before .before .before .before .before .args .h * c .before .before .before .before .before .before .before .before .before .before .before .before .before .before .before .before .before .before .before .before .before .before .before .before .before .before .before .before .before .args .w) (c .before .before .before .before .before .before .before .before .before .before .before .before .before .before .before .before .before .before .loop .x) (c .before .before .before .before .before .before .before .before .before .before .before .before .before .before .before .before .before .before .loop .inv .2) (c .before .before .before .before .before .before .before .before .before .before .before .before .before .before .before .before .before .loop-test .taken)) (c .if1 .taken)
 
 add-i : tie.Need-add-i Inv-loop μ-loop
-add-i c = search needs
+add-i c = omega (arith, c .before .before .before .before .before .before .before .before .before .before .before .before .before .before .before .before .before .loop-test .taken, c .before .before .before .before .before .before .before .before .before .before .before .before .before .before .before .before .before .before .before .before .before .before .before .before .before .before .before .before .before .pre .0 .0 .1 .1)
 
 loop-less : tie.Need-loop-less Inv-loop μ-loop
 loop-less c = search needs
 
 loop-again : tie.Need-loop-again Inv-loop μ-loop
-loop-again c = (omega arith, stretch-next _ _ _ (c .before .before .before .before .before .before .loop .inv .1), stretch-next _ _ _ (c .before .before .before .before .before .before .loop .inv .2), stretch-more ((c .before .before .before .before .before .before .before .before .before .before .before .args .n - 1) * (c .before .before .before .before .before .before .before .before .before .before .before .args .h * c .before .before .before .before .before .before .before .before .before .before .before .args .w)) _ _ (c .before .before .before .before .before .before .loop .x) (c .before .before .before .before .before .before .before .before .before .before .before .args .h * c .before .before .before .before .before .before .before .before .before .before .before .args .w) (c .before .bad-plane .result) (c .before .before .before .before .before .before .loop .inv .3) (bad-plane (c .before .before .before .before .before .before .before .before .before .before .before .args .w) (c .before .before .before .before .before .before .before .before .before .before .before .args .h) (c .before .before .before .before .before .before .loop .i) (c .before .before .before .before .before .before .before .before .before .before .before .args .h * c .before .before .before .before .before .before .before .row-bytes .result) (c .before .before .before .before .before .before .before .before .before .before .before .args .h * c .before .before .before .before .before .before .before .before .before .before .before .args .w) (c .before .before .before .before .before .before .loop .at) (c .before .before .before .before .before .before .loop .x) _ _ _ (rw (c .before .before .before .before .before .before .before .row-bytes .ensures .0)) refl (c .before .before .before .before .before .before .loop .inv .1) (c .before .before .before .before .before .before .loop .inv .2) refl refl refl (λ (j : ℕ). c .before .before .before .before .before .before .before .before .before .before .before .args .q) (c .before .before .before .before .before .before .before .before .before .before .before .args .q) (c .before .before .before .before .before .before .before .before .before .before .before .args .part .now) (c .before .before .before .before .before .before .before .before .before .before .before .args .rings .now) refl) (c .before .bad-plane .ensures) (c .before .before .before .before .before .before .loop .x + c .before .before .before .before .before .before .before .before .before .before .before .args .h * c .before .before .before .before .before .before .before .before .before .before .before .args .w) (c .if1 .left) (λ y a b. a))
+loop-again c = (omega (arith, c .before .before .before .before .before .before .before .before .before .before .before .before .before .before .before .before .before .loop-test .taken), stretch-next _ _ _ (c .before .before .before .before .before .before .before .before .before .before .before .before .before .before .before .before .before .before .loop .inv .1), stretch-next _ _ _ (c .before .before .before .before .before .before .before .before .before .before .before .before .before .before .before .before .before .before .loop .inv .2), stretch-more ((c .before .before .before .before .before .before .before .before .before .before .before .before .before .before .before .before .before .before .before .before .before .before .before .before .before .before .before .before .before .args .n - 1) * (c .before .before .before .before .before .before .before .before .before .before .before .before .before .before .before .before .before .before .before .before .before .before .before .before .before .before .before .before .before .args .h * c .before .before .before .before .before .before .before .before .before .before .before .before .before .before .before .before .before .before .before .before .before .before .before .before .before .before .before .before .before .args .w)) _ _ (c .before .before .before .before .before .before .before .before .before .before .before .before .before .before .before .before .before .before .loop .x) (c .before .before .before .before .before .before .before .before .before .before .before .before .before .before .before .before .before .before .before .before .before .before .before .before .before .before .before .before .before .args .h * c .before .before .before .before .before .before .before .before .before .before .before .before .before .before .before .before .before .before .before .before .before .before .before .before .before .before .before .before .before .args .w) (c .before .before .before .before .before .before .before .before .before .bad-plane .result) (c .before .before .before .before .before .before .before .before .before .before .before .before .before .before .before .before .before .before .loop .inv .3) (bad-plane (c .before .before .before .before .before .before .before .before .before .before .before .before .before .before .before .before .before .before .before .before .before .before .before .before .before .before .before .before .before .args .w) (c .before .before .before .before .before .before .before .before .before .before .before .before .before .before .before .before .before .before .before .before .before .before .before .before .before .before .before .before .before .args .h) (c .before .before .before .before .before .before .before .before .before .before .before .before .before .before .before .before .before .before .loop .i) (c .before .before .before .before .before .before .before .before .before .before .before .before .before .before .before .before .before .before .before .before .before .before .before .before .before .before .before .before .before .args .h * c .before .before .before .before .before .before .before .before .before .before .before .before .before .before .before .before .before .before .before .row-bytes .result) (c .before .before .before .before .before .before .before .before .before .before .before .before .before .before .before .before .before .before .before .before .before .before .before .before .before .before .before .before .before .args .h * c .before .before .before .before .before .before .before .before .before .before .before .before .before .before .before .before .before .before .before .before .before .before .before .before .before .before .before .before .before .args .w) (c .before .before .before .before .before .before .before .before .before .before .before .before .before .before .before .before .before .before .loop .at) (c .before .before .before .before .before .before .before .before .before .before .before .before .before .before .before .before .before .before .loop .x) _ _ _ (rw (c .before .before .before .before .before .before .before .before .before .before .before .before .before .before .before .before .before .before .before .row-bytes .ensures .0)) refl (c .before .before .before .before .before .before .before .before .before .before .before .before .before .before .before .before .before .before .loop .inv .1) (c .before .before .before .before .before .before .before .before .before .before .before .before .before .before .before .before .before .before .loop .inv .2) refl refl refl (λ (j : ℕ). c .before .before .before .before .before .before .before .before .before .before .before .before .before .before .before .before .before .before .before .before .before .before .before .before .before .before .before .before .before .args .q) (c .before .before .before .before .before .before .before .before .before .before .before .before .before .before .before .before .before .before .before .before .before .before .before .before .before .before .before .before .before .args .q) (c .before .before .before .before .before .before .before .before .before .before .before .before .before .before .before .before .before .before .before .before .before .before .before .before .before .before .before .before .before .args .part .now) (c .before .before .before .before .before .before .before .before .before .before .before .before .before .before .before .before .before .before .before .before .before .before .before .before .before .before .before .before .before .args .rings .now) refl) (c .before .before .before .before .before .before .before .before .before .bad-plane .ensures .0) (c .before .before .before .before .before .before .before .before .before .before .before .before .before .before .before .before .before .before .loop .x + c .before .before .before .before .before .before .before .before .before .before .before .before .before .before .before .before .before .before .before .before .before .before .before .before .before .before .before .before .before .args .h * c .before .before .before .before .before .before .before .before .before .before .before .before .before .before .before .before .before .before .before .before .before .before .before .before .before .before .before .before .before .args .w) (c .if1 .left) (λ y a b. a), c .before .before .before .before .before .before .before .before .before .bad-plane .ensures .1, (c .before .before .before .before .before .before .before .before .before .bad-plane .kept .1 .1 .1 .1 .0 ∙ c .before .before .before .before .before .before .before .before .before .before .before .before .before .before .before .before .before .before .loop .inv .5 .0, (c .before .before .before .before .before .before .before .before .before .bad-plane .kept .1 .1 .1 .1 .1 .0 ∙ c .before .before .before .before .before .before .before .before .before .before .before .before .before .before .before .before .before .before .loop .inv .5 .1 .0, (c .before .before .before .before .before .before .before .before .before .bad-plane .kept .1 .1 .1 .1 .1 .1 .0 ∙ c .before .before .before .before .before .before .before .before .before .before .before .before .before .before .before .before .before .before .loop .inv .5 .1 .1 .0, c .before .before .before .before .before .before .before .before .before .bad-plane .kept .1 .1 .1 .1 .1 .1 .1 .0 ∙ c .before .before .before .before .before .before .before .before .before .before .before .before .before .before .before .before .before .before .loop .inv .5 .1 .1 .1))))
+
+same-length-5 : tie.Need-same-length-5 Inv-loop μ-loop
+same-length-5 c = c .before .loop .inv .5 .0
+
+same-length-6 : tie.Need-same-length-6 Inv-loop μ-loop
+same-length-6 c = c .before .loop .inv .5 .1 .0
+
+same-length-7 : tie.Need-same-length-7 Inv-loop μ-loop
+same-length-7 c = c .before .loop .inv .5 .1 .1 .0
+
+same-length-8 : tie.Need-same-length-8 Inv-loop μ-loop
+same-length-8 c = c .before .loop .inv .5 .1 .1 .1
 
 returns-2 : tie.Need-returns-2 Inv-loop μ-loop
-returns-2 c = least-end ((c .before .before .before .before .before .before .args .n - 1) * (c .before .before .before .before .before .before .args .h * c .before .before .before .before .before .before .args .w)) _ (c .before .loop .x) (stretch-end (c .before .loop .i) (c .before .before .before .before .before .before .args .n - 1) (c .before .before .before .before .before .before .args .h * c .before .before .before .before .before .before .args .w) (c .before .loop .x) (c .before .loop .inv .2) (c .before .loop .inv .0) (c .loop-test .left)) (c .before .loop .inv .3)
+returns-2 c = least-end ((c .before .before .before .before .before .before .before .before .before .before .before .before .args .n - 1) * (c .before .before .before .before .before .before .before .before .before .before .before .before .args .h * c .before .before .before .before .before .before .before .before .before .before .before .before .args .w)) _ (c .before .loop .x) (stretch-end (c .before .loop .i) (c .before .before .before .before .before .before .before .before .before .before .before .before .args .n - 1) (c .before .before .before .before .before .before .before .before .before .before .before .before .args .h * c .before .before .before .before .before .before .before .before .before .before .before .before .args .w) (c .before .loop .x) (c .before .loop .inv .2) (c .before .loop .inv .0) (c .loop-test .left)) (c .before .loop .inv .3)
 
 pub bad-at-spec : {M : Type 1} → statement M
 bad-at-spec =
@@ -123,8 +150,16 @@ bad-at-spec =
     part-bad-plane-end-3
     bad-plane-requires
     add-result
+    same-length
+    same-length-2
+    same-length-3
+    same-length-4
     returns
     add-i
     loop-less
     loop-again
+    same-length-5
+    same-length-6
+    same-length-7
+    same-length-8
     returns-2)

@@ -5,7 +5,6 @@ use mathlib.Core.Bool.{_&&_, false}
 use mathlib.Core.Path.{_∙_, _≡_, sym}
 use lib.Dec.{eqb}
 use lib.ListN.{getD}
-use Rattle.judge.proofs.Bits.{no-bit}
 use Rattle.judge.proofs.Finding.{fails-more, least-none, least-one}
 use Rattle.rules.specs.Images.{bitAt}
 use Rattle.judge.proofs.bare_bit.Statement.{statement}
@@ -19,9 +18,6 @@ Inv-loop m rings x to k₀ k = (k ≤ to) × ((y : ℕ) → 0 ≤ y → y < k �
 
 abbrev μ-loop : tie.MeasureT-loop
 μ-loop m rings x to k₀ k = to - k
-
-returns : tie.Need-returns Inv-loop μ-loop
-returns c = least-none _ _ _ (search needs) (λ y l b. rw (no-bit (c .before .before .args .m) y (c .if1 .taken)))
 
 loop-holds : tie.Need-loop-holds Inv-loop μ-loop
 loop-holds c = (search needs, λ y l b. absurd (omega arith))
@@ -38,8 +34,8 @@ shared-slice-read-bare c = search needs
 bare-requires : tie.Need-bare-requires Inv-loop μ-loop
 bare-requires c κs = search needs
 
-returns-2 : tie.Need-returns-2 Inv-loop μ-loop
-returns-2 c = least-one _ _ _ (c .before .before .before .before .loop .k) (search needs) (search needs) (c .before .before .before .before .loop .inv .1) (sym (c .before .bare .ensures) ∙ c .if2 .taken)
+returns : tie.Need-returns Inv-loop μ-loop
+returns c = least-one _ _ _ (c .before .before .before .before .loop .k) (search needs) (search needs) (c .before .before .before .before .loop .inv .1) (sym (c .before .bare .ensures) ∙ c .if1 .taken)
 
 add-k : tie.Need-add-k Inv-loop μ-loop
 add-k c = search needs
@@ -48,10 +44,10 @@ loop-less : tie.Need-loop-less Inv-loop μ-loop
 loop-less c = search needs
 
 loop-again : tie.Need-loop-again Inv-loop μ-loop
-loop-again c = (search needs, fails-more _ _ (c .before .before .before .before .loop .k) (c .before .before .before .before .loop .inv .1) (sym (c .before .bare .ensures) ∙ c .if2 .left))
+loop-again c = (search needs, fails-more _ _ (c .before .before .before .before .loop .k) (c .before .before .before .before .loop .inv .1) (sym (c .before .bare .ensures) ∙ c .if1 .left))
 
-returns-3 : tie.Need-returns-3 Inv-loop μ-loop
-returns-3 c = least-none _ _ _ (search needs) (λ y l b. c .before .loop .inv .1 y l (omega arith))
+returns-2 : tie.Need-returns-2 Inv-loop μ-loop
+returns-2 c = least-none _ _ _ (search needs) (λ y l b. c .before .loop .inv .1 y l (omega arith))
 
 pub bare-bit-spec : {M : Type 1} → statement M
 bare-bit-spec =
@@ -59,14 +55,13 @@ bare-bit-spec =
     (tie.spec
     Inv-loop
     μ-loop
-    returns
     loop-holds
     add-bare
     mul-bare
     shared-slice-read-bare
     bare-requires
-    returns-2
+    returns
     add-k
     loop-less
     loop-again
-    returns-3)
+    returns-2)

@@ -6,17 +6,18 @@ use mathlib.Core.Path.{_≡_}
 use Rattle.judge.proofs.Finding.{stretch-hit, stretch-more}
 use Rattle.judge.proofs.Planes.{overlap-row}
 use Rattle.judge.proofs.Rows.{apart-none, area-fit, bytes-fit, bytes-in, least-end, plane-bytes, stretch-end, stretch-in, stretch-next}
-use Rattle.judge.specs.Search.{overlapHere, planeOf}
+use Rattle.judge.specs.Search.{overlapHere}
 use Rattle.judge.proofs.overlap_plane.Statement.{statement}
 use Rattle.judge.proofs.overlap_plane.Tie as tie
 use Rattle.judge.proofs.overlap_plane.Reads as reads
 use Rattle.judge.proofs.overlap_plane.Lts as lts
 use Rattle.judge.proofs.apart.Reads as apart-reads
 use Rattle.judge.proofs.overlap_row.Reads as overlap-row-reads
+use Rattle.image.specs.Rows.{packed}
 use Rattle.limits.proofs.row_bytes.Reads as row-bytes-reads
 
 abbrev Inv-loop : tie.InvT-loop
-Inv-loop part sup w h rb at₀ x₀ row₀ at x row = (row ≤ h) × (at ≡ row * rb) × (x ≡ row * w) × ((y : ℕ) → y < x → y < h * w → overlapHere (planeOf w part) (planeOf w sup) y ≡ false)
+Inv-loop part sup w h rb at₀ x₀ row₀ at x row = (row ≤ h) × (at ≡ row * rb) × (x ≡ row * w) × ((y : ℕ) → y < x → y < h * w → overlapHere (packed w part) (packed w sup) y ≡ false)
 
 abbrev μ-loop : tie.MeasureT-loop
 μ-loop part sup w h rb at₀ x₀ row₀ at x row = h - row

@@ -7,17 +7,18 @@ use lib.ListN.{getD}
 use Rattle.judge.proofs.Finding.{stretch-hit, stretch-more}
 use Rattle.judge.proofs.Planes.{unheld-row}
 use Rattle.judge.proofs.Rows.{area-fit, bytes-fit, bytes-in, held-plane, least-end, plane-bytes, stretch-end, stretch-in, stretch-next}
-use Rattle.judge.specs.Search.{planeOf, unheldHere}
+use Rattle.judge.specs.Search.{unheldHere}
 use Rattle.judge.proofs.unheld_plane.Statement.{statement}
 use Rattle.judge.proofs.unheld_plane.Tie as tie
 use Rattle.judge.proofs.unheld_plane.Reads as reads
 use Rattle.judge.proofs.unheld_plane.Lts as lts
 use Rattle.judge.proofs.held.Reads as held-reads
 use Rattle.limits.proofs.row_bytes.Reads as row-bytes-reads
+use Rattle.image.specs.Rows.{packed}
 use Rattle.judge.proofs.unheld_row.Reads as unheld-row-reads
 
 abbrev Inv-loop : tie.InvT-loop
-Inv-loop low up below above rings w h rb at₀ x₀ row₀ at x row = (row ≤ h) × (at ≡ row * rb) × (x ≡ row * w) × ((y : ℕ) → y < x → y < h * w → unheldHere (planeOf w low) (planeOf w up) (planeOf w below) (planeOf w above) (λ p. getD rings p 0) y ≡ false)
+Inv-loop low up below above rings w h rb at₀ x₀ row₀ at x row = (row ≤ h) × (at ≡ row * rb) × (x ≡ row * w) × ((y : ℕ) → y < x → y < h * w → unheldHere (packed w low) (packed w up) (packed w below) (packed w above) (λ p. getD rings p 0) y ≡ false)
 
 abbrev μ-loop : tie.MeasureT-loop
 μ-loop low up below above rings w h rb at₀ x₀ row₀ at x row = h - row

@@ -2,9 +2,10 @@ use native.Mathlib.Omega.{arith}
 use borrow.Author.Needs.{needs}
 use Prim.Native.Nat.{_%_, _+_, _-_, _/_, _<_, ℕ}
 use mathlib.Core.Bool.{false}
+use mathlib.Core.Logic.{⊎-elim}
 use mathlib.Core.Path.{_≡_}
 use Rattle.judge.proofs.Finding.{least-none, stretch-hit, stretch-more}
-use Rattle.judge.proofs.Rows.{held-row, unheld-byte}
+use Rattle.judge.proofs.Rows.{held-row, unheld-byte, unheld-skip}
 use Rattle.judge.specs.Search.{unheldIn}
 use Rattle.rules.specs.Images.{rowBytes}
 use Rattle.judge.proofs.unheld_row.Statement.{statement}
@@ -14,8 +15,8 @@ use Rattle.judge.proofs.unheld_row.Lts as lts
 use Rattle.judge.proofs.bare_bit.Reads as bare-bit-reads
 use Rattle.judge.proofs.hanging.Reads as hanging-reads
 use Rattle.judge.proofs.held.Reads as held-reads
-use Rattle.limits.proofs.row_bytes.Reads as row-bytes-reads
 use Rattle.judge.proofs.smaller.Reads as smaller-reads
+use Rattle.limits.proofs.row_bytes.Reads as row-bytes-reads
 
 abbrev Inv-loop : tie.InvT-loop
 Inv-loop low up below above rings at x w c₀ b₀ c b = (c % 8 ≡ 0) × (b ≡ at + c / 8) × ((y : ℕ) → y < c → y < w → unheldIn low up below above rings at x y ≡ false)
@@ -34,12 +35,6 @@ returns c = held-row (c .before .before .before .before .before .before .before 
 
 loop-holds : tie.Need-loop-holds Inv-loop μ-loop
 loop-holds c = (search needs, search needs, λ y l a. absurd (omega arith))
-
-sub-smaller : tie.Need-sub-smaller Inv-loop μ-loop
-sub-smaller c = search needs
-
-smaller-requires : tie.Need-smaller-requires Inv-loop μ-loop
-smaller-requires c κs = search needs
 
 shared-slice-read-hanging : tie.Need-shared-slice-read-hanging Inv-loop μ-loop
 unfolding rowBytes
@@ -60,6 +55,12 @@ shared-slice-read-hanging-4 c = omega arith
 hanging-requires : tie.Need-hanging-requires Inv-loop μ-loop
 hanging-requires c κs = search needs
 
+sub-smaller : tie.Need-sub-smaller Inv-loop μ-loop
+sub-smaller c = search needs
+
+smaller-requires : tie.Need-smaller-requires Inv-loop μ-loop
+smaller-requires c κs = search needs
+
 add-bare-bit : tie.Need-add-bare-bit Inv-loop μ-loop
 add-bare-bit c = search needs
 
@@ -70,7 +71,7 @@ add-result : tie.Need-add-result Inv-loop μ-loop
 add-result c = search needs
 
 returns-2 : tie.Need-returns-2 Inv-loop μ-loop
-returns-2 c = stretch-hit (c .before .before .before .before .before .before .before .before .before .before .before .before .before .before .before .before .before .before .args .w) (unheldIn (c .before .before .before .before .before .before .before .before .before .before .before .before .before .before .before .before .before .before .args .low .now) (c .before .before .before .before .before .before .before .before .before .before .before .before .before .before .before .before .before .before .args .up .now) (c .before .before .before .before .before .before .before .before .before .before .before .before .before .before .before .before .before .before .args .below .now) (c .before .before .before .before .before .before .before .before .before .before .before .before .before .before .before .before .before .before .args .above .now) (c .before .before .before .before .before .before .before .before .before .before .before .before .before .before .before .before .before .before .args .rings .now) (c .before .before .before .before .before .before .before .before .before .before .before .before .before .before .before .before .before .before .args .at) (c .before .before .before .before .before .before .before .before .before .before .before .before .before .before .before .before .before .before .args .x)) _ (c .before .before .before .before .before .before .before .before .before .loop .c) (c .before .before .before .before .before .before .before .smaller .result) (c .before .bare-bit .result) (c .before .before .before .before .before .before .before .before .before .loop .inv .2) (λ j l. unheld-byte (c .before .before .before .before .before .before .before .before .before .before .before .before .before .before .before .before .before .before .args .low .now) (c .before .before .before .before .before .before .before .before .before .before .before .before .before .before .before .before .before .before .args .up .now) (c .before .before .before .before .before .before .before .before .before .before .before .before .before .before .before .before .before .before .args .below .now) (c .before .before .before .before .before .before .before .before .before .before .before .before .before .before .before .before .before .before .args .above .now) (c .before .before .before .before .before .before .before .before .before .before .before .before .before .before .before .before .before .before .args .rings .now) (c .before .before .before .before .before .before .before .before .before .before .before .before .before .before .before .before .before .before .args .at) (c .before .before .before .before .before .before .before .before .before .before .before .before .before .before .before .before .before .before .args .x) (c .before .before .before .before .before .before .before .before .before .loop .c) (c .before .before .before .before .before .before .before .before .before .loop .b) (c .before .before .hanging .result) j (c .before .before .before .before .before .before .before .before .before .loop .inv .0) (c .before .before .before .before .before .before .before .before .before .loop .inv .1) (omega arith) (c .before .before .hanging .ensures)) (c .before .bare-bit .ensures) (omega arith) (c .if2 .taken)
+returns-2 c = stretch-hit (c .before .before .before .before .before .before .before .before .before .before .before .before .before .before .before .before .before .before .before .args .w) (unheldIn (c .before .before .before .before .before .before .before .before .before .before .before .before .before .before .before .before .before .before .before .args .low .now) (c .before .before .before .before .before .before .before .before .before .before .before .before .before .before .before .before .before .before .before .args .up .now) (c .before .before .before .before .before .before .before .before .before .before .before .before .before .before .before .before .before .before .before .args .below .now) (c .before .before .before .before .before .before .before .before .before .before .before .before .before .before .before .before .before .before .before .args .above .now) (c .before .before .before .before .before .before .before .before .before .before .before .before .before .before .before .before .before .before .before .args .rings .now) (c .before .before .before .before .before .before .before .before .before .before .before .before .before .before .before .before .before .before .before .args .at) (c .before .before .before .before .before .before .before .before .before .before .before .before .before .before .before .before .before .before .before .args .x)) _ (c .before .before .before .before .before .before .before .before .before .before .loop .c) (c .before .before .smaller .result) (c .before .bare-bit .result) (c .before .before .before .before .before .before .before .before .before .before .loop .inv .2) (λ j l. unheld-byte (c .before .before .before .before .before .before .before .before .before .before .before .before .before .before .before .before .before .before .before .args .low .now) (c .before .before .before .before .before .before .before .before .before .before .before .before .before .before .before .before .before .before .before .args .up .now) (c .before .before .before .before .before .before .before .before .before .before .before .before .before .before .before .before .before .before .before .args .below .now) (c .before .before .before .before .before .before .before .before .before .before .before .before .before .before .before .before .before .before .before .args .above .now) (c .before .before .before .before .before .before .before .before .before .before .before .before .before .before .before .before .before .before .before .args .rings .now) (c .before .before .before .before .before .before .before .before .before .before .before .before .before .before .before .before .before .before .before .args .at) (c .before .before .before .before .before .before .before .before .before .before .before .before .before .before .before .before .before .before .before .args .x) (c .before .before .before .before .before .before .before .before .before .before .loop .c) (c .before .before .before .before .before .before .before .before .before .before .loop .b) (c .before .before .before .before .hanging .result) j (c .before .before .before .before .before .before .before .before .before .before .loop .inv .0) (c .before .before .before .before .before .before .before .before .before .before .loop .inv .1) (omega arith) (c .before .before .before .before .hanging .ensures)) (c .before .bare-bit .ensures) (omega arith) (c .if3 .taken)
 
 add-c : tie.Need-add-c Inv-loop μ-loop
 add-c c = search needs
@@ -83,7 +84,7 @@ loop-less : tie.Need-loop-less Inv-loop μ-loop
 loop-less c = search needs
 
 loop-again : tie.Need-loop-again Inv-loop μ-loop
-loop-again c = (omega arith, omega arith, stretch-more (c .before .before .before .before .before .before .before .before .before .before .before .before .before .before .before .before .before .before .args .w) (unheldIn (c .before .before .before .before .before .before .before .before .before .before .before .before .before .before .before .before .before .before .args .low .now) (c .before .before .before .before .before .before .before .before .before .before .before .before .before .before .before .before .before .before .args .up .now) (c .before .before .before .before .before .before .before .before .before .before .before .before .before .before .before .before .before .before .args .below .now) (c .before .before .before .before .before .before .before .before .before .before .before .before .before .before .before .before .before .before .args .above .now) (c .before .before .before .before .before .before .before .before .before .before .before .before .before .before .before .before .before .before .args .rings .now) (c .before .before .before .before .before .before .before .before .before .before .before .before .before .before .before .before .before .before .args .at) (c .before .before .before .before .before .before .before .before .before .before .before .before .before .before .before .before .before .before .args .x)) _ (c .before .before .before .before .before .before .before .before .before .loop .c) (c .before .before .before .before .before .before .before .smaller .result) (c .before .bare-bit .result) (c .before .before .before .before .before .before .before .before .before .loop .inv .2) (λ j l. unheld-byte (c .before .before .before .before .before .before .before .before .before .before .before .before .before .before .before .before .before .before .args .low .now) (c .before .before .before .before .before .before .before .before .before .before .before .before .before .before .before .before .before .before .args .up .now) (c .before .before .before .before .before .before .before .before .before .before .before .before .before .before .before .before .before .before .args .below .now) (c .before .before .before .before .before .before .before .before .before .before .before .before .before .before .before .before .before .before .args .above .now) (c .before .before .before .before .before .before .before .before .before .before .before .before .before .before .before .before .before .before .args .rings .now) (c .before .before .before .before .before .before .before .before .before .before .before .before .before .before .before .before .before .before .args .at) (c .before .before .before .before .before .before .before .before .before .before .before .before .before .before .before .before .before .before .args .x) (c .before .before .before .before .before .before .before .before .before .loop .c) (c .before .before .before .before .before .before .before .before .before .loop .b) (c .before .before .hanging .result) j (c .before .before .before .before .before .before .before .before .before .loop .inv .0) (c .before .before .before .before .before .before .before .before .before .loop .inv .1) (omega arith) (c .before .before .hanging .ensures)) (c .before .bare-bit .ensures) (c .before .before .before .before .before .before .before .before .before .loop .c + 8) (c .if2 .left) (λ y a b. omega arith))
+loop-again c = (omega arith, omega arith, ⊎-elim (λ v. stretch-more (c .before .before .before .before .before .before .before .before .before .before .before .before .before .before .before .before .args .w) (unheldIn (c .before .before .before .before .before .before .before .before .before .before .before .before .before .before .before .before .args .low .now) (c .before .before .before .before .before .before .before .before .before .before .before .before .before .before .before .before .args .up .now) (c .before .before .before .before .before .before .before .before .before .before .before .before .before .before .before .before .args .below .now) (c .before .before .before .before .before .before .before .before .before .before .before .before .before .before .before .before .args .above .now) (c .before .before .before .before .before .before .before .before .before .before .before .before .before .before .before .before .args .rings .now) (c .before .before .before .before .before .before .before .before .before .before .before .before .before .before .before .before .args .at) (c .before .before .before .before .before .before .before .before .before .before .before .before .before .before .before .before .args .x)) _ (c .before .before .before .before .before .before .before .loop .c) (v .1 .result) (v .2 .result) (c .before .before .before .before .before .before .before .loop .inv .2) (λ j l. unheld-byte (c .before .before .before .before .before .before .before .before .before .before .before .before .before .before .before .before .args .low .now) (c .before .before .before .before .before .before .before .before .before .before .before .before .before .before .before .before .args .up .now) (c .before .before .before .before .before .before .before .before .before .before .before .before .before .before .before .before .args .below .now) (c .before .before .before .before .before .before .before .before .before .before .before .before .before .before .before .before .args .above .now) (c .before .before .before .before .before .before .before .before .before .before .before .before .before .before .before .before .args .rings .now) (c .before .before .before .before .before .before .before .before .before .before .before .before .before .before .before .before .args .at) (c .before .before .before .before .before .before .before .before .before .before .before .before .before .before .before .before .args .x) (c .before .before .before .before .before .before .before .loop .c) (c .before .before .before .before .before .before .before .loop .b) (c .before .hanging .result) j (c .before .before .before .before .before .before .before .loop .inv .0) (c .before .before .before .before .before .before .before .loop .inv .1) (omega (arith, v .1 .ensures)) (c .before .hanging .ensures)) (v .2 .ensures) (c .before .before .before .before .before .before .before .loop .c + 8) (v .3 .left) (λ y a b. omega (arith, v .1 .ensures))) (λ v. unheld-skip (c .before .before .before .before .before .before .before .before .before .before .before .before .before .before .before .before .args .low .now) (c .before .before .before .before .before .before .before .before .before .before .before .before .before .before .before .before .args .up .now) (c .before .before .before .before .before .before .before .before .before .before .before .before .before .before .before .before .args .below .now) (c .before .before .before .before .before .before .before .before .before .before .before .before .before .before .before .before .args .above .now) (c .before .before .before .before .before .before .before .before .before .before .before .before .before .before .before .before .args .rings .now) (c .before .before .before .before .before .before .before .before .before .before .before .before .before .before .before .before .args .at) (c .before .before .before .before .before .before .before .before .before .before .before .before .before .before .before .before .args .x) (c .before .before .before .before .before .before .before .before .before .before .before .before .before .before .before .before .args .w) (c .before .before .before .before .before .before .before .loop .c) (c .before .before .before .before .before .before .before .loop .b) (c .before .hanging .result) (c .before .before .before .before .before .before .before .loop .inv .0) (c .before .before .before .before .before .before .before .loop .inv .1) (c .before .hanging .ensures) (v .left) (c .before .before .before .before .before .before .before .loop .inv .2)) (c .if2 .came))
 
 returns-3 : tie.Need-returns-3 Inv-loop μ-loop
 returns-3 c = least-none 0 (c .before .before .before .before .before .before .before .before .before .before .args .w) _ (omega arith) (λ y l b. c .before .loop .inv .2 y (omega arith) b)
@@ -98,13 +99,13 @@ unheld-row-spec =
     held-requires
     returns
     loop-holds
-    sub-smaller
-    smaller-requires
     shared-slice-read-hanging
     shared-slice-read-hanging-2
     shared-slice-read-hanging-3
     shared-slice-read-hanging-4
     hanging-requires
+    sub-smaller
+    smaller-requires
     add-bare-bit
     bare-bit-requires
     add-result

@@ -43,7 +43,7 @@ returns-2 : tie.Need-returns-2
 returns-2 c = told-10 (c .before .before .before .before .before .before .before .before .args .s .w) (c .before .before .before .before .before .before .before .before .args .s .h) (c .before .before .before .before .before .before .before .before .args .s .n) (boundOf (c .before .before .before .before .before .before .before .before .args .s)) (c .before .before .before .before .before .before .before .before .args .part .now) (c .before .before .before .before .before .before .before .before .args .support .now) (c .before .before .before .before .before .before .before .before .args .rings .now) _ (c .before .before .before .before .overlap-at .ensures) (c .before .before .before .if1 .left) _ (c .before .before .bad-ring .ensures) (c .before .if2 .taken) _ (c .place-of2 .ensures)
 
 unheld-at-requires : tie.Need-unheld-at-requires
-unheld-at-requires c κs = ((plane-sized (c .before .before .before .before .before .before .before .args .s) (c .before .before .before .before .before .before .before .pre .0), (c .before .before .before .before .before .before .before .pre .0 .n-low, c .before .before .before .before .before .before .before .pre .0 .n-high)), (stack-length (c .before .before .before .before .before .before .before .args .s) _ (c .before .before .before .before .before .before .before .pre .1 .0), (stack-length (c .before .before .before .before .before .before .before .args .s) _ (c .before .before .before .before .before .before .before .pre .1 .1 .0), ring-count (c .before .before .before .before .before .before .before .args .s) _ (c .before .before .before .before .before .before .before .pre .1 .1 .1))))
+unheld-at-requires c κs = ((plane-sized (c .before .before .before .before .before .before .before .args .s) (c .before .before .before .before .before .before .before .pre .0), (c .before .before .before .before .before .before .before .pre .0 .n-low, c .before .before .before .before .before .before .before .pre .0 .n-high)), (stack-length (c .before .before .before .before .before .before .before .args .s) _ (c .before .before .before .before .before .before .before .pre .1 .0), (stack-length (c .before .before .before .before .before .before .before .args .s) _ (c .before .before .before .before .before .before .before .pre .1 .1 .0), ring-count (c .before .before .before .before .before .before .before .args .s) _ (c .before .before .before .before .before .before .before .pre .1 .1 .1 .1))))
 
 place-of-requires-3 : tie.Need-place-of-requires-3
 place-of-requires-3 c κs = (plane-sized (c .before .before .before .before .before .before .before .before .before .args .s) (c .before .before .before .before .before .before .before .before .before .pre .0), (omega (arith, rings-most (c .before .before .before .before .before .before .before .before .before .args .s) (c .before .before .before .before .before .before .before .before .before .pre .0), rings-is (c .before .before .before .before .before .before .before .before .before .args .s), c .if3 .taken), omega arith))
