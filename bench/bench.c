@@ -1,0 +1,164 @@
+/* The benchmark's driver: runs one call on one input, a number of times.
+ *
+ * usage: bench WHAT INPUT W H N R TIMES
+ *
+ * WHAT is plan or check (the library), peer-plan or peer-check (the tuned peer), floor (what no planner can do without: zeroing the ring
+ * planes and copying the part), or compare (library and peer must agree on every byte). check judges what was planned before, by the
+ * peer, which is not part of the TIMES. INPUT is empty, solid, sphere, lattice, noise or spiral; R is the reach in pixels. Prints
+ * the seconds by the clock for the TIMES. With TIMES 0 only the input is made, so what a call costs by any measure is the difference.
+ */
+#define _POSIX_C_SOURCE 199309L
+#include "inputs.h"
+#include "peer.h"
+
+#include <stdio.h>
+#include <stdlib.h>
+#include <string.h>
+#include <time.h>
+
+enum { PITCH = 100 };
+
+struct job {
+    struct size s;
+    uint32_t overhang;
+    uint8_t *part, *support;
+    uint16_t *rings;
+};
+
+typedef void call(const struct job *job);
+
+static void die(const char *why)
+{
+    fprintf(stderr, "bench: %s\n", why);
+    exit(2);
+}
+
+static void *room(size_t count, size_t width)
+{
+    void *p = calloc(count + 1, width);
+    if (p == NULL) die("out of memory");
+    return p;
+}
+
+static void accept(kg_answer answer)
+{
+    if (answer != 0) die("a call refused");
+}
+
+/* ---- The calls ---- */
+
+static void plan(const struct job *j)
+{
+    accept(kg_plan(j->s.w, j->s.h, j->s.n, PITCH, j->overhang, j->part, stack_bytes(j->s), j->support, stack_bytes(j->s), j->rings,
+                   ring_count(j->s)));
+}
+
+static void peer_plan(const struct job *j)
+{
+    accept(tuned_plan(j->s.w, j->s.h, j->s.n, PITCH, j->overhang, j->part, stack_bytes(j->s), j->support, stack_bytes(j->s), j->rings,
+                      ring_count(j->s)));
+}
+
+static void check(const struct job *j)
+{
+    accept(kg_check(j->s.w, j->s.h, j->s.n, PITCH, j->overhang, j->part, stack_bytes(j->s), j->support, stack_bytes(j->s), j->rings,
+                    ring_count(j->s)));
+}
+
+static void peer_check(const struct job *j)
+{
+    accept(tuned_check(j->s.w, j->s.h, j->s.n, PITCH, j->overhang, j->part, stack_bytes(j->s), j->support, stack_bytes(j->s), j->rings,
+                       ring_count(j->s)));
+}
+
+static void least(const struct job *j)
+{
+    memset(j->rings, 0, ring_count(j->s) * sizeof *j->rings);
+    memcpy(j->support, j->part, stack_bytes(j->s));
+}
+
+/* ---- Comparing ---- */
+
+static void spoil(struct job *j)
+{
+    memset(j->support, 0xA5, stack_bytes(j->s));
+    memset(j->rings, 0xA5, ring_count(j->s) * sizeof *j->rings);
+}
+
+static void compare(struct job *j)
+{
+    struct job other = *j;
+    other.support = room(stack_bytes(j->s), 1);
+    other.rings = room(ring_count(j->s), sizeof *j->rings);
+    spoil(j);
+    spoil(&other);
+    plan(j);
+    peer_plan(&other);
+    if (memcmp(j->support, other.support, stack_bytes(j->s)) != 0) die("support differs");
+    if (memcmp(j->rings, other.rings, ring_count(j->s) * sizeof *j->rings) != 0) die("rings differ");
+    check(j);
+    peer_check(j);
+    free(other.support);
+    free(other.rings);
+}
+
+/* ---- The command line ---- */
+
+static size_t number(const char *word, size_t low, size_t high)
+{
+    char *end;
+    unsigned long value = strtoul(word, &end, 10);
+    if (*word == 0 || *end != 0 || value < low || value > high) die("a number is missing or out of range");
+    return value;
+}
+
+static struct job make_job(char **words)
+{
+    struct job j;
+    const struct input *input = find_input(words[0]);
+    if (input == NULL) die("no such input");
+    j.s.w = number(words[1], 1, 256);
+    j.s.h = number(words[2], 1, 256);
+    j.s.n = number(words[3], 1, 512);
+    j.overhang = (uint32_t)(PITCH * number(words[4], 0, 32));
+    j.part = room(stack_bytes(j.s), 1);
+    j.support = room(stack_bytes(j.s), 1);
+    j.rings = room(ring_count(j.s), sizeof *j.rings);
+    input->draw(j.s, j.part);
+    return j;
+}
+
+static double seconds(void)
+{
+    struct timespec t;
+    clock_gettime(CLOCK_MONOTONIC, &t);
+    return (double)t.tv_sec + (double)t.tv_nsec / 1e9;
+}
+
+static call *find_call(const char *what)
+{
+    static const struct { const char *name; call *run; } calls[] = {
+        {"plan", plan}, {"peer-plan", peer_plan}, {"check", check}, {"peer-check", peer_check}, {"floor", least},
+    };
+    for (size_t k = 0; k < sizeof calls / sizeof *calls; k++)
+        if (strcmp(calls[k].name, what) == 0) return calls[k].run;
+    die("no such thing to run");
+    return NULL;
+}
+
+int main(int count, char **words)
+{
+    if (count != 8) die("usage: bench WHAT INPUT W H N R TIMES");
+    size_t times = number(words[7], 0, 1000000);
+    struct job j = make_job(words + 2);
+    if (strcmp(words[1], "compare") == 0) {
+        compare(&j);
+        return 0;
+    }
+    call *run = find_call(words[1]);
+    if (run == check || run == peer_check) peer_plan(&j);
+    double began = seconds();
+    for (size_t k = 0; k < times; k++) run(&j);
+    printf("%.6f\n", seconds() - began);
+    return 0;
+}
