@@ -1,25 +1,26 @@
 -- What a text printed into a buffer is, and the room that the report program has.
 use mathlib.Core.Path.{_≡_, refl, sym, ap, subst, _∙_}
 use mathlib.Core.Bool.{Bool, true, false, cond}
-use mathlib.Core.List.{List, [], _++_}
+use mathlib.Core.List.{List, [], _∷_, _++_}
 use Prim.Native.Nat.{ℕ, zero, suc, _+_, _-_, _*_, _≤_, _<_}
+use native.Mathlib.Nat.{mul-le-mul}
 use native.Mathlib.Omega.{arith}
 use lib.Dec.{ltb}
 use lib.ListN.{length, length-append, length-take, length-drop}
-use borrow.Author.Tests.{ltb-true, ltb-false}
-use Rattle.rules.specs.Tools.{refusal}
+use borrow.Author.Tests.{ltb-true, ltb-false, lt-ltb, le-ltb, eq-eqb}
+use Rattle.rules.specs.Tools.{_when_, refusal}
 use Rattle.rules.specs.Images.{rowsOf, stackBytes, ringsIn, paddingSet}
 use Rattle.rules.specs.Reach.{boundOf}
 use Rattle.rules.specs.Planning.{plannedRings, plannedBytes}
 use Rattle.rules.specs.Jobs.{over, settingsIn, partIn, layoutOf}
-use Rattle.rules.specs.Calls.{settingCases, planRefusal, planSupport, planRings, readCases, readRefusal, readAnswer, partAnswer}
+use Rattle.rules.specs.Calls.{reachCases, settingCases, lengthCases, planCases, planRefusal, planSupport, planRings, readCases, readRefusal, readAnswer, partAnswer}
 use Rattle.rules.specs.Report.{refusedLine, spaced, planLines, reportOf}
 use Rattle.rules.specs.declared.Settings.{Settings}
 use Rattle.rules.specs.declared.Layout.{Layout}
 use Rattle.rules.specs.declared.ReadJob.{ReadJob}
 use Rattle.rules.specs.declared.ReadJob.the-variants.{Job, Refused}
 use Rattle.laws.specs.Limits.{Ranged, ranged, stack-most}
-use Rattle.laws.specs.Refusals.{answer-fine}
+use Rattle.laws.specs.Refusals.{answer-fine, numbered, orElse, refusal-append}
 use Rattle.laws.specs.Demand1.{job-read, job-refused}
 use Rattle.laws.specs.Demand2.{plan-fills}
 use Rattle.laws.specs.Demand3.{plannedBytes-length, plannedRings-length}
@@ -47,6 +48,13 @@ pub record Planable (s : Settings) (part : List ℕ) : Type 0 where
   pub long : length part ≡ stackBytes s
   pub clear : paddingSet (s .w) (rowsOf s) part ≡ false
   pub fits : length part ≤ 65536
+
+-- how many rings there are, as the code multiplies
+pub ring-product : (s : Settings) → (1 ≤ s .n) × ((s .n ≤ 512) × ((s .h ≤ 256) × (s .w ≤ 256))) → (s .h * s .w ≤ 65536) × ((s .n - 1) * (s .h * s .w) ≤ 33488896)
+ring-product s (a, (b, (c, d))) =
+    let e : s .h * s .w ≤ 65536 = mul-le-mul c d in
+    let k : s .n - 1 ≤ 511 = omega arith in
+    (e, mul-le-mul k e)
 
 -- a refusal's line is short
 pub refused-short : (k : ℕ) → k < 256 → length (refusedLine k) ≤ 16384
@@ -81,6 +89,34 @@ module _ (s : Settings) (part sup ring : List ℕ) (e : planRefusal s part (leng
 part-fits : (f : List ℕ) → length f ≤ 65536 → length (partIn f) ≤ 65536
 unfolding partIn
 part-fits f small = simp (length-take, length-drop) (omega arith)
+
+numbered-settings : (s : Settings) → numbered (settingCases s) ≡ true
+unfolding settingCases reachCases numbered
+numbered-settings s = refl
+
+numbered-lengths : (s : Settings) (part a b : ℕ) → numbered (settingCases s ++ lengthCases s part a b) ≡ true
+unfolding settingCases reachCases lengthCases numbered
+numbered-lengths s part a b = refl
+
+-- planning a part that can be planned, into buffers cut to its lengths
+pub plan-fits : (s : Settings) (part : List ℕ) (a b : ℕ) → Planable s part → a ≡ length part → b ≡ ringsIn s → planRefusal s part a b ≡ 0
+unfolding planRefusal planCases lengthCases
+plan-fits s part a b x ea eb =
+    let ka : a ≡ stackBytes s = ea ∙ x .long in
+    let e : refusal (settingCases s ++ lengthCases s (length part) a b) ≡ 0 =
+    refusal-append (settingCases s) (lengthCases s (length part) a b) (numbered-settings s)
+    ∙ rw (x .settings, eq-eqb (length part) (stackBytes s) (x .long), eq-eqb a (stackBytes s) ka, eq-eqb b (ringsIn s) eb) in
+    refusal-append (settingCases s ++ lengthCases s (length part) a b) ((7 when paddingSet (s .w) (rowsOf s) part) ∷ []) (numbered-lengths s (length part) a b)
+    ∙ rw (e, x .clear)
+
+-- by the room for rings
+pub text-no-room : (s : Settings) (part : List ℕ) (count r : ℕ) (now was : List ℕ) → count ≡ ringsIn s → 32768 < count → Printed (refusedLine 17) r now was →
+    Printed (cond (ltb 32768 (ringsIn s)) (refusedLine 17) (planLines s part)) r now was
+text-no-room s part count r now was e h t = rw (lt-ltb 32768 (ringsIn s) (omega arith)) t
+
+pub text-lines : (s : Settings) (part : List ℕ) (count r : ℕ) (now was : List ℕ) → count ≡ ringsIn s → count ≤ 32768 → Printed (planLines s part) r now was →
+    Printed (cond (ltb 32768 (ringsIn s)) (refusedLine 17) (planLines s part)) r now was
+text-lines s part count r now was e h t = rw (le-ltb 32768 (ringsIn s) (omega arith)) t
 
 -- a job that was read
 module _ (f : List ℕ) (small : length f ≤ 65536) (r : ReadJob) (is : r ≡ readAnswer f) where

@@ -1,6 +1,8 @@
 // The text of the report: words and numbers in decimal, each written at a place of a lent buffer; and its lines.
 mod counts; // counts.rt: pixels counted
+mod output; // output.rt: the whole output for an input
 
+pub use output::report;
 ghost use mathlib.Core.Path.{_≡_};
 ghost use mathlib.Core.List.{[], _∷_, _++_};
 ghost use Prim.Native.Nat.{_+_, _-_, _*_, _<_, _≤_};

@@ -1,0 +1,86 @@
+// What the report program prints for an input: the lines of a job that is planned afresh, or the line of its refusal.
+use crate::job_lines;
+use crate::refused_line;
+use plan::plan;
+use rules::ReadJob;
+use rules::Settings;
+ghost use mathlib.Core.Path.{_≡_};
+ghost use mathlib.Core.Bool.{cond, false};
+ghost use Prim.Native.Nat.{_+_, _-_, _*_, _<_, _≤_};
+ghost use lib.Dec.{ltb};
+ghost use lib.ListN.{length};
+ghost use Rattle.rules.specs.Images.{ringsIn};
+ghost use Rattle.rules.specs.Calls.{planRefusal};
+ghost use Rattle.rules.specs.Report.{planLines, refusedLine, reportOf};
+ghost use Rattle.lines.specs.Printed.{Printed, Room, Planable};
+
+fn wide(k: u8) -> usize
+    ensures { λ r. ⌜ (r ≡ k) × (r < 256) ⌝ }
+{
+    k as usize
+}
+
+// The lines of a part that is planned into buffers of the right lengths.
+fn planned_lines(
+    s: Settings,
+    part: &[u8],
+    support: &mut [u8],
+    rings: &mut [u16],
+    out: &mut [u8],
+) -> usize
+    requires { ⌜ (planRefusal s (now part) (length (now support)) (length (now rings)) ≡ 0) × (Planable s (now part) × (length (now out) ≡ 16384)) ⌝ }
+    ensures { λ r. ⌜ Printed (planLines s (now (part .entry))) r (now (out .exit)) (now (out .entry)) ⌝ }
+{
+    plan(s, part, support, rings);
+    job_lines(out, s, part, support, rings)
+}
+
+// How many rings a job has.
+fn ring_count(s: Settings) -> usize
+    requires { ⌜ (1 ≤ s .n) × ((s .n ≤ 512) × ((s .h ≤ 256) × (s .w ≤ 256))) ⌝ }
+    ensures { λ r. ⌜ r ≡ ringsIn s ⌝ }
+{
+    (s.n - 1) * (s.h * s.w)
+}
+
+// The text for a job that was read: 17 where its rings have no room, or its lines.
+fn job_text(
+    s: Settings,
+    part: &[u8],
+    support: &mut [u8],
+    rings: &mut [u16],
+    out: &mut [u8],
+) -> usize
+    requires { ⌜ Planable s (now part) × Room (now support) (now rings) (now out) ⌝ }
+    ensures { λ r. ⌜ Printed (cond (ltb 32768 (ringsIn s)) (refusedLine 17) (planLines s (now (part .entry)))) r (now (out .exit)) (now (out .entry)) ⌝ }
+{
+    let count = ring_count(s);
+    if 32768 < count {
+        return refused_line(out, 17);
+    }
+    let bytes = part.len();
+    planned_lines(s, part, &mut support[..bytes], &mut rings[..count], out)
+}
+
+// The whole output for an input of at most 65,536 bytes; `more` says that there was more of it.
+pub fn report(
+    file: &[u8],
+    more: bool,
+    support: &mut [u8],
+    rings: &mut [u16],
+    out: &mut [u8],
+) -> usize
+    requires { ⌜ (length (now file) ≤ 65536) × Room (now support) (now rings) (now out) ⌝ }
+    ensures { λ r. ⌜ Printed (cond more (refusedLine 17) (reportOf (now (file .entry)))) r (now (out .exit)) (now (out .entry)) ⌝ }
+{
+    if more {
+        return refused_line(out, 17);
+    }
+    match job::read(file) {
+        ReadJob::Refused(k) => refused_line(out, wide(k)),
+        ReadJob::Job(l) => {
+            let s = l.settings;
+            job_text(s, job::part(file), support, rings, out)
+        }
+    }
+}
