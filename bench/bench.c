@@ -79,18 +79,18 @@ static void least(const struct job *j)
 
 /* ---- Comparing ---- */
 
-static void spoil(struct job *j)
+/* Fills what a planner is to write, so that its memory is there and holds other bytes. */
+static void spoil(const struct job *j)
 {
     memset(j->support, 0xA5, stack_bytes(j->s));
     memset(j->rings, 0xA5, ring_count(j->s) * sizeof *j->rings);
 }
 
-static void compare(struct job *j)
+static void compare(const struct job *j)
 {
     struct job other = *j;
     other.support = room(stack_bytes(j->s), 1);
     other.rings = room(ring_count(j->s), sizeof *j->rings);
-    spoil(j);
     spoil(&other);
     plan(j);
     peer_plan(&other);
@@ -125,6 +125,7 @@ static struct job make_job(char **words)
     j.support = room(stack_bytes(j.s), 1);
     j.rings = room(ring_count(j.s), sizeof *j.rings);
     input->draw(j.s, j.part);
+    spoil(&j);
     return j;
 }
 

@@ -1,5 +1,5 @@
-/* Counts the instructions that an x86-64 program runs under qemu-user: a plugin for qemu-x86_64. The figure does not depend on what else
- * the machine does, and where the emulated program is the same it is the same in every run. A clock says nothing under emulation.
+/* Counts the instructions that an x86-64 program runs under qemu-user: a plugin for qemu-x86_64. A clock says nothing under emulation;
+ * this figure does not depend on what else the machine does, and runs of one program differ by a few dozen at most.
  *
  *   cc -shared -fPIC -O2 -DPLUGIN_VERSION=1 -o libinsn.so insn.c
  *   qemu-x86_64 -plugin ./libinsn.so PROGRAM ARGS      (prints "insns N" to standard error when PROGRAM ends)
