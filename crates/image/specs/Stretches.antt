@@ -1,4 +1,4 @@
--- A plane of a stack that was lent, written and given back (from the prototype `images`).
+-- A plane of a stack that was lent, written and given back.
 use mathlib.Core.Path.{_≡_, sym, ap, _∙_}
 use mathlib.Core.List.{List, _++_}
 use Prim.Native.Nat.{ℕ, _+_, _-_, _*_, _≤_}
