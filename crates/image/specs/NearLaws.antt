@@ -234,6 +234,13 @@ halves-at q d k l hv u v =
     let e : k ≡ getD l d 0 = elim (decLt (getD l d 0) k) [ yes p ↦ absurd (omega (arith, H .outside k p)) | no p ↦ omega arith ] in
     subst (λ (x : ℕ). HalfWidth q d x) (sym e) H
 
+-- what is reached in a row is within its half-width, and no half-width is over 32
+pub halves-up : (q d k : ℕ) (l : List ℕ) → Halves q l → d * d + k * k ≤ q → k ≤ getD l d 0
+halves-up q d k l hv u = elim (decLe k (getD l d 0)) [ yes p ↦ p | no p ↦ absurd (omega (arith, hv .half d (omega arith) .outside k (omega arith))) ]
+
+pub halves-max : (q d : ℕ) (l : List ℕ) → Halves q l → d * d ≤ q → getD l d 0 ≤ 32
+halves-max q d l hv u = omega (arith, hv .last, halves-up q 0 (getD l d 0) l hv (omega (arith, hv .half d u .inside (getD l d 0) (omega arith))))
+
 -- where the rows begin
 pub start-far : (q h left : ℕ) (l : List ℕ) → Halves q l → left ≡ min (getD l 0 0 + 1) h → (h ≤ left) ⊎ (q < left * left)
 start-far q h left l hv e = elim (decLe h (getD l 0 0 + 1)) [

@@ -27,12 +27,25 @@ fn wider(wide: &mut [u8], temp: &mut [u8], mask: &[u8], w: usize, h: usize, st: 
     crate::planes::copy(temp, wide, st, e);
 }
 
-// The pixels near to low. half has the half-widths of the disc; wide and temp are scratch.
+// A plane that is `wid` columns wider to each side becomes one that is `want` columns wider.
+fn widen_to(wide: &mut [u8], mask: &[u8], w: usize, h: usize, st: usize, wid: usize, want: usize)
+    requires { ⌜ Sizes w h st ⌝ }
+    requires { ⌜ Drawn w h st (λ p. true) (now mask) ⌝ }
+    requires { ⌜ Ready w h st (now wide) × (wid ≤ want) × (want ≤ 32) ⌝ }
+    ensures { λ _. ⌜ ((f : ℕ → Bool) → Scratch w h st (widened w wid f) (now (wide .entry)) → Scratch w h st (widened w want f) (now (wide .exit))) ⌝ }
+{
+    let mut temp = [0u8; 8704];
+    let mut k = wid;
+    while k < want {
+        wider(wide, &mut temp, mask, w, h, st);
+        k += 1;
+    }
+}
+
+// The pixels near to low. half has the half-widths of the disc.
 pub fn near_plane(
     low: &[u8],
     out: &mut [u8],
-    wide: &mut [u8],
-    temp: &mut [u8],
     mask: &[u8],
     half: &[usize],
     w: usize,
@@ -43,25 +56,22 @@ pub fn near_plane(
     requires { ⌜ Sizes w h st ⌝ }
     requires { ⌜ Drawn w h st (λ p. true) (now mask) ⌝ }
     requires { ⌜ Halves q (now half) ⌝ }
-    requires { ⌜ Ready w h st (now low) × Ready w h st (now out) × Ready w h st (now wide) × Ready w h st (now temp) ⌝ }
+    requires { ⌜ Ready w h st (now low) × Ready w h st (now out) ⌝ }
     ensures { λ _. ⌜ Drawn w h st (near w h q (seen w st (now (low .entry)))) (now (out .exit)) ⌝ }
-    ensures { λ _. ⌜ Ready w h st (now (wide .exit)) × Ready w h st (now (temp .exit)) ⌝ }
 {
-    let n = (h + 2) * st;
     let e = (h + 1) * st;
-    crate::planes::clear(out, n);
-    crate::planes::copy(low, wide, st, e);
+    crate::planes::clear(out, (h + 2) * st);
+    let mut wide = [0u8; 8704];
+    crate::planes::copy(low, &mut wide, st, e);
     let mut wid: usize = 0;
     let mut left = min2(half[0] + 1, h);
     while 0 < left {
         left -= 1;
         let want = half[left];
-        while wid < want {
-            wider(wide, temp, mask, w, h, st);
-            wid += 1;
-        }
+        widen_to(&mut wide, mask, w, h, st, wid, want);
+        wid = want;
         let by = left * st;
-        crate::planes::or_up(out, wide, by, st, e - by);
-        crate::planes::or_down(out, wide, by, st + by, e);
+        crate::planes::or_up(out, &wide, by, st, e - by);
+        crate::planes::or_down(out, &wide, by, st + by, e);
     }
 }

@@ -6,23 +6,15 @@ ghost use lib.ListN.{length};
 ghost use Rattle.rules.specs.Planning.{touch, touching};
 ghost use Rattle.image.specs.Scratch.{Sizes, seen, Ready, Drawn};
 
-// The pixels of mask that touch one of p. temp is scratch.
-pub fn touching_plane(
-    p: &[u8],
-    temp: &mut [u8],
-    mask: &[u8],
-    out: &mut [u8],
-    w: usize,
-    h: usize,
-    st: usize,
-)
+// The pixels of mask that touch one of p.
+pub fn touching_plane(p: &[u8], mask: &[u8], out: &mut [u8], w: usize, h: usize, st: usize)
     requires { ⌜ Sizes w h st ⌝ }
-    requires { ⌜ Ready w h st (now p) × Ready w h st (now temp) × Ready w h st (now mask) × Ready w h st (now out) ⌝ }
+    requires { ⌜ Ready w h st (now p) × Ready w h st (now mask) × Ready w h st (now out) ⌝ }
     requires { ⌜ ((x : ℕ) → x < h * w → seen w st (now mask) x ≡ true → seen w st (now p) x ≡ true → ⊥) ⌝ }
     ensures { λ _. ⌜ Drawn w h st (λ x. seen w st (now (mask .entry)) x && touching (h * w) (touch w) (seen w st (now (p .entry))) x) (now (out .exit)) ⌝ }
-    ensures { λ _. ⌜ Ready w h st (now (temp .exit)) ⌝ }
 {
     let e = (h + 1) * st;
-    crate::planes::three_rows(p, temp, st, st, e);
-    crate::planes::widen(temp, mask, out, st, e);
+    let mut rows = [0u8; 8704];
+    crate::planes::three_rows(p, &mut rows, st, st, e);
+    crate::planes::widen(&rows, mask, out, st, e);
 }
