@@ -8,3 +8,4 @@ pub mod MarkLaws
 pub mod VisitLaws
 pub mod SweepLaws
 pub mod StartLaws
+pub mod FreeLaws

@@ -6,7 +6,11 @@ use Prim.Native.Nat.{ℕ, zero, suc, _+_, _*_, _<_, _≤_}
 use lib.ListN.{getD, length}
 use Rattle.rules.specs.Demands.{Joined}
 use Rattle.rules.specs.Images.{Plane}
-use Rattle.rules.specs.Planning.{touching, touch}
+use Rattle.rules.specs.Planning.{touching, touch, near}
+
+-- the pixels of a shadow that are near
+unfoldable pub nearIn : ℕ → ℕ → ℕ → Plane → Plane → Plane
+nearIn w h q low sh p = sh p && near w h q low p
 
 -- a ring's number, and 65536 for none
 abbrev pub level : ℕ → ℕ

@@ -1,4 +1,4 @@
-// Rings of one pair of layers, by relaxation over marked pixels.
+// Rings of one pair of layers: over the near shadow pixels, from the seeds.
 pub mod levels;
 pub mod marks;
 pub mod start;
@@ -10,33 +10,61 @@ ghost use Prim.Native.Nat.{ℕ, _*_, _<_, _≤_};
 ghost use lib.ListN.{length, getD};
 ghost use lib.Dec.{ltb};
 ghost use Rattle.rules.specs.Planning.{touch, grown};
-ghost use Rattle.image.specs.Scratch.{Drawn, Ready, Sizes, Framed, Scratch, seen};
+ghost use Rattle.laws.specs.Discs.{Halves};
+ghost use Rattle.image.specs.Scratch.{Drawn, Ready, Sizes, seen};
+ghost use Rattle.grow.specs.Rings.{nearIn};
 
-// Leaves the rings of the growing over free from seed in ring, and the pixels with one in excused. later, marks and temp are scratch.
-pub fn rings(
+// The rings over the free pixels from the seeds, by relaxation over marked pixels; the pixels with a ring go to excused.
+fn over(
     free: &[u8],
     seed: &[u8],
     ring: &mut [u16],
     excused: &mut [u8],
-    later: &mut [u8],
-    marks: &mut [u8],
-    temp: &mut [u8],
     w: usize,
     h: usize,
     st: usize,
 )
     requires { ⌜ Sizes w h st ⌝ }
-    requires { ⌜ Ready w h st (now free) × Ready w h st (now seed) ⌝ }
-    requires { ⌜ Ready w h st (now excused) × Ready w h st (now later) × Ready w h st (now marks) × Ready w h st (now temp) × (length (now ring) ≡ h * w) ⌝ }
+    requires { ⌜ Ready w h st (now free) × Ready w h st (now seed) × Ready w h st (now excused) × (length (now ring) ≡ h * w) ⌝ }
     requires { ⌜ ((x : ℕ) → x < h * w → seen w st (now free) x ≡ true → seen w st (now seed) x ≡ true → ⊥) ⌝ }
     ensures { λ _. ⌜ now (ring .exit) ≡ grown (h * w) (touch w) (seen w st (now (free .entry))) (seen w st (now (seed .entry))) (h * w) ⌝ }
     ensures { λ _. ⌜ Drawn w h st (λ p. ltb 0 (getD (now (ring .exit)) p 0)) (now (excused .exit)) ⌝ }
-    ensures { λ _. ⌜ Ready w h st (now (later .exit)) × Ready w h st (now (marks .exit)) × Ready w h st (now (temp .exit)) ⌝ }
 {
     crate::start::zero(ring);
-    image::neighbours::touching_plane(seed, temp, free, excused, w, h, st);
-    image::planes::but_not(free, excused, later, (h + 2) * st);
-    image::neighbours::touching_plane(excused, temp, later, marks, w, h, st);
+    image::neighbours::touching_plane(seed, free, excused, w, h, st);
+    let mut later = [0u8; 8704];
+    image::planes::but_not(free, excused, &mut later, (h + 2) * st);
+    let mut marks = [0u8; 8704];
+    image::neighbours::touching_plane(excused, &later, &mut marks, w, h, st);
     crate::start::ones(ring, excused, w, h, st);
-    crate::sweeps::settle(ring, marks, excused, later, w, h, st);
+    crate::sweeps::settle(ring, &mut marks, excused, &later, w, h, st);
+}
+
+// The rings of a pair by its shadow and its seeds, which are part below; the pixels with a ring go to excused.
+pub fn rings(
+    lower: &[u8],
+    shadow: &[u8],
+    seed: &[u8],
+    ring: &mut [u16],
+    excused: &mut [u8],
+    mask: &[u8],
+    half: &[usize],
+    w: usize,
+    h: usize,
+    st: usize,
+    q: usize,
+)
+    requires { ⌜ Sizes w h st ⌝ }
+    requires { ⌜ Ready w h st (now lower) × Ready w h st (now shadow) × Ready w h st (now seed) × Ready w h st (now excused) × (length (now ring) ≡ h * w) ⌝ }
+    requires { ⌜ Drawn w h st (λ p. true) (now mask) × Halves q (now half) ⌝ }
+    requires { ⌜ ((x : ℕ) → x < h * w → seen w st (now shadow) x ≡ true → seen w st (now seed) x ≡ true → ⊥) ⌝ }
+    requires { ⌜ ((x : ℕ) → x < h * w → seen w st (now seed) x ≡ true → seen w st (now lower) x ≡ true) ⌝ }
+    ensures { λ _. ⌜ now (ring .exit) ≡ grown (h * w) (touch w) (nearIn w h q (seen w st (now (lower .entry))) (seen w st (now (shadow .entry)))) (seen w st (now (seed .entry))) (h * w) ⌝ }
+    ensures { λ _. ⌜ Drawn w h st (λ p. ltb 0 (getD (now (ring .exit)) p 0)) (now (excused .exit)) ⌝ }
+{
+    let mut close = [0u8; 8704];
+    image::nearness::near_plane(lower, &mut close, mask, half, w, h, st, q);
+    let mut free = [0u8; 8704];
+    image::planes::both(shadow, &close, &mut free, (h + 2) * st);
+    over(&free, seed, ring, excused, w, h, st);
 }

@@ -2,11 +2,13 @@
 use mathlib.Core.Path.{_≡_, refl, sym, ap, _∙_}
 use mathlib.Core.Bool.{Bool, true, false, _&&_, _||_, cond}
 use mathlib.Core.List.{List}
+use mathlib.Core.Logic.{_⊎_, inl, inr}
 use Prim.Native.Nat.{ℕ, zero, suc, _+_, _-_, _≤_, _<_}
 use native.Mathlib.Nat.{zero-add, suc-add}
 use native.Mathlib.Omega.{arith}
 use lib.Dec.{ltb, eqb}
 use lib.ListN.{getD, length}
+use lib.Seq.{ext-getD}
 use borrow.Author.Tests.{eqb-true, ltb-true, eq-eqb, ne-eqb, lt-ltb, le-ltb}
 use Rattle.rules.specs.Tools.{count}
 use Rattle.rules.specs.Images.{Plane}
@@ -245,3 +247,43 @@ module _ (m : ℕ) (touch : ℕ → ℕ → Bool) (free seed : Plane) where
       same : (k o : ℕ) → o < m → source seed f k o ≡ true → source seed g k o ≡ true
       same zero o lo u = let (a, b) = seed-source seed f o u in source-seed seed g o a (sym (s o lo) ∙ b)
       same (suc k) o lo u = source-ring seed g k o (sym (s o lo) ∙ ring-source seed f k o u)
+
+-- Growing looks only at the pixels that exist ------------------------------------------------------------------------
+
+module _ (m : ℕ) (t : ℕ → ℕ → Bool) (f g s r : Plane) (ef : (p : ℕ) → p < m → f p ≡ g p) (es : (p : ℕ) → p < m → s p ≡ r p) where
+  joined-same : {k p : ℕ} → p < m → Joined m t f s k p → Joined m t g r k p
+  joined-same lp (start {p = p} {o = o} a lo b d) = start (sym (ef p lp) ∙ a) lo b (sym (es o lo) ∙ d)
+  joined-same lp (onward {k = k} {p = p} {o = o} a lo b d) = onward (sym (ef p lp) ∙ a) lo b (joined-same lo d)
+
+  grown-le : (p : ℕ) → p < m → 0 < getD (grown m t f s m) p 0 → (0 < getD (grown m t g r m) p 0) × (getD (grown m t g r m) p 0 ≤ getD (grown m t f s m) p 0)
+  grown-le p lp a = go (getD (grown m t f s m) p 0) refl
+    where
+      go : (v : ℕ) → getD (grown m t f s m) p 0 ≡ v → (0 < getD (grown m t g r m) p 0) × (getD (grown m t g r m) p 0 ≤ getD (grown m t f s m) p 0)
+      go zero e = absurd (omega arith)
+      go (suc v) e = let (x, y) = ring-fewest m t g r lp (joined-same lp (ring-joined m t f s p v lp e)) in (x, omega arith)
+
+pub grown-same : (m : ℕ) (t : ℕ → ℕ → Bool) (f g s r : Plane) → ((p : ℕ) → p < m → f p ≡ g p) → ((p : ℕ) → p < m → s p ≡ r p) → grown m t f s m ≡ grown m t g r m
+grown-same m t f g s r ef es =
+    ext-getD 0 (grown m t f s m) (grown m t g r m) (length-grown m t f s m ∙ sym (length-grown m t g r m))
+    (λ p l. same p (omega (arith, length-grown m t f s m)) (getD (grown m t f s m) p 0) refl (getD (grown m t g r m) p 0) refl)
+  where
+    same : (p : ℕ) → p < m → (a : ℕ) → getD (grown m t f s m) p 0 ≡ a → (b : ℕ) → getD (grown m t g r m) p 0 ≡ b → getD (grown m t f s m) p 0 ≡ getD (grown m t g r m) p 0
+    same p lp zero x zero y = x ∙ sym y
+    same p lp zero x (suc b) y = absurd (omega (arith, grown-le m t g f r s (λ p l. sym (ef p l)) (λ p l. sym (es p l)) p lp (omega arith)))
+    same p lp (suc a) x zero y = absurd (omega (arith, grown-le m t f g s r ef es p lp (omega arith)))
+    same p lp (suc a) x (suc b) y = omega (arith, grown-le m t f g s r ef es p lp (omega arith), grown-le m t g f r s (λ p l. sym (ef p l)) (λ p l. sym (es p l)) p lp (omega arith))
+
+-- without a seed, or without a free pixel, there is no ring
+module _ (m : ℕ) (t : ℕ → ℕ → Bool) (free seed : Plane) where
+  no-path : {C : Type 0} → ((p : ℕ) → p < m → free p ≡ false) ⊎ ((p : ℕ) → p < m → seed p ≡ false) → {k p : ℕ} → p < m → Joined m t free seed k p → C
+  no-path (inl e) lp (start {p = p} f l u s) = clash f (e p lp)
+  no-path (inl e) lp (onward {p = p} f l u r) = clash f (e p lp)
+  no-path (inr e) lp (start {o = o} f l u s) = clash s (e o l)
+  no-path (inr e) lp (onward f l u r) = no-path (inr e) l r
+
+  pub grown-none : (l : List ℕ) → length l ≡ m → ((p : ℕ) → p < m → getD l p 0 ≡ 0) → ((p : ℕ) → p < m → free p ≡ false) ⊎ ((p : ℕ) → p < m → seed p ≡ false) → l ≡ grown m t free seed m
+  grown-none l long zeros e = ext-getD 0 l (grown m t free seed m) (long ∙ sym (length-grown m t free seed m)) (λ p h. zeros p (omega arith) ∙ sym (none p (omega arith) (getD (grown m t free seed m) p 0) refl))
+    where
+      none : (p : ℕ) → p < m → (v : ℕ) → getD (grown m t free seed m) p 0 ≡ v → getD (grown m t free seed m) p 0 ≡ 0
+      none p lp zero x = x
+      none p lp (suc v) x = no-path e lp (ring-joined m t free seed p v lp x)

@@ -23,46 +23,6 @@ use Rattle.image.specs.Planes.{wide-row, spot-size, scratch-op, scratch-seen, s
 use Rattle.image.specs.Scratch.{bitOf, spot, Sizes, Framed, Scratch, seen, Drawn}
 use Rattle.plan.specs.Pairs.{nearIn, pairRings, keepBit, pairSupport}
 
--- Growing looks only at the pixels that exist ------------------------------------------------------------------------
-
-module _ (m : ℕ) (t : ℕ → ℕ → Bool) (f g s r : Plane) (ef : (p : ℕ) → p < m → f p ≡ g p) (es : (p : ℕ) → p < m → s p ≡ r p) where
-  joined-same : {k p : ℕ} → p < m → Joined m t f s k p → Joined m t g r k p
-  joined-same lp (start {p = p} {o = o} a lo b d) = start (sym (ef p lp) ∙ a) lo b (sym (es o lo) ∙ d)
-  joined-same lp (onward {k = k} {p = p} {o = o} a lo b d) = onward (sym (ef p lp) ∙ a) lo b (joined-same lo d)
-
-  grown-le : (p : ℕ) → p < m → 0 < getD (grown m t f s m) p 0 → (0 < getD (grown m t g r m) p 0) × (getD (grown m t g r m) p 0 ≤ getD (grown m t f s m) p 0)
-  grown-le p lp a = go (getD (grown m t f s m) p 0) refl
-    where
-      go : (v : ℕ) → getD (grown m t f s m) p 0 ≡ v → (0 < getD (grown m t g r m) p 0) × (getD (grown m t g r m) p 0 ≤ getD (grown m t f s m) p 0)
-      go zero e = absurd (omega arith)
-      go (suc v) e = let (x, y) = ring-fewest m t g r lp (joined-same lp (ring-joined m t f s p v lp e)) in (x, omega arith)
-
-pub grown-same : (m : ℕ) (t : ℕ → ℕ → Bool) (f g s r : Plane) → ((p : ℕ) → p < m → f p ≡ g p) → ((p : ℕ) → p < m → s p ≡ r p) → grown m t f s m ≡ grown m t g r m
-grown-same m t f g s r ef es =
-    ext-getD 0 (grown m t f s m) (grown m t g r m) (length-grown m t f s m ∙ sym (length-grown m t g r m))
-    (λ p l. same p (omega (arith, length-grown m t f s m)) (getD (grown m t f s m) p 0) refl (getD (grown m t g r m) p 0) refl)
-  where
-    same : (p : ℕ) → p < m → (a : ℕ) → getD (grown m t f s m) p 0 ≡ a → (b : ℕ) → getD (grown m t g r m) p 0 ≡ b → getD (grown m t f s m) p 0 ≡ getD (grown m t g r m) p 0
-    same p lp zero x zero y = x ∙ sym y
-    same p lp zero x (suc b) y = absurd (omega (arith, grown-le m t g f r s (λ p l. sym (ef p l)) (λ p l. sym (es p l)) p lp (omega arith)))
-    same p lp (suc a) x zero y = absurd (omega (arith, grown-le m t f g s r ef es p lp (omega arith)))
-    same p lp (suc a) x (suc b) y = omega (arith, grown-le m t f g s r ef es p lp (omega arith), grown-le m t g f r s (λ p l. sym (ef p l)) (λ p l. sym (es p l)) p lp (omega arith))
-
--- without a seed, or without a free pixel, there is no ring
-module _ (m : ℕ) (t : ℕ → ℕ → Bool) (free seed : Plane) where
-  no-path : {C : Type 0} → ((p : ℕ) → p < m → free p ≡ false) ⊎ ((p : ℕ) → p < m → seed p ≡ false) → {k p : ℕ} → p < m → Joined m t free seed k p → C
-  no-path (inl e) lp (start {p = p} f l u s) = clash f (e p lp)
-  no-path (inl e) lp (onward {p = p} f l u r) = clash f (e p lp)
-  no-path (inr e) lp (start {o = o} f l u s) = clash s (e o l)
-  no-path (inr e) lp (onward f l u r) = no-path (inr e) l r
-
-  pub grown-none : (l : List ℕ) → length l ≡ m → ((p : ℕ) → p < m → getD l p 0 ≡ 0) → ((p : ℕ) → p < m → free p ≡ false) ⊎ ((p : ℕ) → p < m → seed p ≡ false) → l ≡ grown m t free seed m
-  grown-none l long zeros e = ext-getD 0 l (grown m t free seed m) (long ∙ sym (length-grown m t free seed m)) (λ p h. zeros p (omega arith) ∙ sym (none p (omega arith) (getD (grown m t free seed m) p 0) refl))
-    where
-      none : (p : ℕ) → p < m → (v : ℕ) → getD (grown m t free seed m) p 0 ≡ v → getD (grown m t free seed m) p 0 ≡ 0
-      none p lp zero x = x
-      none p lp (suc v) x = no-path e lp (ring-joined m t free seed p v lp x)
-
 -- A pair looks only at the pixels that exist -------------------------------------------------------------------------
 
 module _ (w h q : ℕ) (low low' up up' : Plane) (el : (p : ℕ) → p < h * w → low p ≡ low' p) (eu : (p : ℕ) → p < h * w → up p ≡ up' p) where
@@ -152,21 +112,6 @@ module _ (w h st : ℕ) (z : Sizes w h st) where
     pair-support ring ex out was e sx fa wi =
         scratch-support (shadow (seen w st lower) (seen w st upper)) (λ p. ltb 0 (getD (pairRings w h q (seen w st lower) (seen w st upper)) p 0)) (seen w st lower) (seen w st was) shL ex lower out was
         shadow-is (subst (λ (r : List ℕ). Scratch w h st (λ p. ltb 0 (getD r p 0)) ex) e sx) (framed-scratch w h st z lower fl) (framed-scratch w h st z was fa) wi
-
-  -- free pixels: near in a shadow
-  pub free-is : (q : ℕ) (low sh nearL free : List ℕ) → Framed w h st sh → Scratch w h st (near w h q (seen w st low)) nearL → Bits2 ((h + 2) * st) _&&_ free sh nearL → Scratch w h st (nearIn w h q (seen w st low) (seen w st sh)) free
-  unfolding nearIn
-  free-is q low sh nearL free fs sn b = scratch-op w h st z _&&_ (seen w st sh) (near w h q (seen w st low)) free sh nearL refl (framed-scratch w h st z sh fs) sn b
-
-  pub free-apart : (q : ℕ) (low sh seed free : List ℕ) → Scratch w h st (nearIn w h q (seen w st low) (seen w st sh)) free → ((x : ℕ) → x < h * w → seen w st sh x ≡ true → seen w st seed x ≡ true → ⊥)
-      → (x : ℕ) → x < h * w → seen w st free x ≡ true → seen w st seed x ≡ true → ⊥
-  unfolding nearIn
-  free-apart q low sh seed free sf ap' x lx a b = ap' x lx (and-l (seen w st sh x) _ (sym (scratch-seen w h st z (nearIn w h q (seen w st low) (seen w st sh)) free sf x lx) ∙ a)) b
-
-  pub free-rings : (q : ℕ) (low sh seed free l : List ℕ) → Scratch w h st (nearIn w h q (seen w st low) (seen w st sh)) free
-      → l ≡ grown (h * w) (touch w) (seen w st free) (seen w st seed) (h * w) → l ≡ grown (h * w) (touch w) (nearIn w h q (seen w st low) (seen w st sh)) (seen w st seed) (h * w)
-  free-rings q low sh seed free l sf e = e ∙ grown-same (h * w) (touch w) (seen w st free) (nearIn w h q (seen w st low) (seen w st sh)) (seen w st seed) (seen w st seed)
-      (scratch-seen w h st z (nearIn w h q (seen w st low) (seen w st sh)) free sf) (λ p lp. refl)
 
   -- no shadow, or no seed: no ring
   pub bare-rings : (q : ℕ) (low sh seed l : List ℕ) → length l ≡ h * w → ((p : ℕ) → p < h * w → getD l p 0 ≡ 0)

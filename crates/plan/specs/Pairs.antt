@@ -5,11 +5,7 @@ use Prim.Native.Nat.{ℕ, _*_}
 use lib.Dec.{ltb}
 use lib.ListN.{getD}
 use Rattle.rules.specs.Images.{Plane}
-use Rattle.rules.specs.Planning.{shadow, near, seeds, reached, touch, grown}
-
--- the pixels of a shadow that are near
-unfoldable pub nearIn : ℕ → ℕ → ℕ → Plane → Plane → Plane
-nearIn w h q low sh p = sh p && near w h q low p
+use Rattle.rules.specs.Planning.{shadow, seeds, reached, touch, grown}
 
 -- the rings of the layers `low` and `up`
 unfoldable pub pairRings : ℕ → ℕ → ℕ → Plane → Plane → List ℕ
