@@ -10,7 +10,6 @@ ghost use Prim.Native.Nat.{ℕ, _*_, _<_, _≤_};
 ghost use lib.ListN.{length, getD};
 ghost use lib.Dec.{ltb};
 ghost use Rattle.rules.specs.Planning.{touch, grown};
-ghost use Rattle.laws.specs.Discs.{Halves};
 ghost use Rattle.image.specs.Scratch.{Drawn, Ready, Sizes, seen};
 ghost use Rattle.grow.specs.Rings.{nearIn};
 
@@ -47,8 +46,6 @@ pub fn rings(
     seed: &[u8],
     ring: &mut [u16],
     excused: &mut [u8],
-    mask: &[u8],
-    half: &[usize],
     w: usize,
     h: usize,
     st: usize,
@@ -56,14 +53,14 @@ pub fn rings(
 )
     requires { ⌜ Sizes w h st ⌝ }
     requires { ⌜ Ready w h st (now lower) × Ready w h st (now shadow) × Ready w h st (now seed) × Ready w h st (now excused) × (length (now ring) ≡ h * w) ⌝ }
-    requires { ⌜ Drawn w h st (λ p. true) (now mask) × Halves q (now half) ⌝ }
+    requires { ⌜ q ≤ 1024 ⌝ }
     requires { ⌜ ((x : ℕ) → x < h * w → seen w st (now shadow) x ≡ true → seen w st (now seed) x ≡ true → ⊥) ⌝ }
     requires { ⌜ ((x : ℕ) → x < h * w → seen w st (now seed) x ≡ true → seen w st (now lower) x ≡ true) ⌝ }
     ensures { λ _. ⌜ now (ring .exit) ≡ grown (h * w) (touch w) (nearIn w h q (seen w st (now (lower .entry))) (seen w st (now (shadow .entry)))) (seen w st (now (seed .entry))) (h * w) ⌝ }
     ensures { λ _. ⌜ Drawn w h st (λ p. ltb 0 (getD (now (ring .exit)) p 0)) (now (excused .exit)) ⌝ }
 {
     let mut close = [0u8; 8704];
-    image::nearness::near_plane(lower, &mut close, mask, half, w, h, st, q);
+    image::nearness::near_plane(lower, &mut close, w, h, st, q);
     let mut free = [0u8; 8704];
     image::planes::both(shadow, &close, &mut free, (h + 2) * st);
     over(&free, seed, ring, excused, w, h, st);

@@ -42,8 +42,8 @@ fn widen_to(wide: &mut [u8], mask: &[u8], w: usize, h: usize, st: usize, wid: us
     }
 }
 
-// The pixels near to low. half has the half-widths of the disc.
-pub fn near_plane(
+// The pixels near to low. half has the half-widths of the disc, and mask every pixel.
+fn near_disc(
     low: &[u8],
     out: &mut [u8],
     mask: &[u8],
@@ -74,4 +74,17 @@ pub fn near_plane(
         crate::planes::or_up(out, &wide, by, st, e - by);
         crate::planes::or_down(out, &wide, by, st + by, e);
     }
+}
+
+// The pixels near to low: those with a pixel of low at squared distance at most q.
+pub fn near_plane(low: &[u8], out: &mut [u8], w: usize, h: usize, st: usize, q: usize)
+    requires { ⌜ Sizes w h st ⌝ }
+    requires { ⌜ Ready w h st (now low) × Ready w h st (now out) × (q ≤ 1024) ⌝ }
+    ensures { λ _. ⌜ Drawn w h st (near w h q (seen w st (now (low .entry)))) (now (out .exit)) ⌝ }
+{
+    let mut mask = [0u8; 8704];
+    crate::full::full_plane(&mut mask, w, h, st);
+    let mut half = [0usize; 33];
+    roots::halves(q, &mut half);
+    near_disc(low, out, &mask, &half, w, h, st, q);
 }

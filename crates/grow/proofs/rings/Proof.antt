@@ -16,7 +16,7 @@ slice-aggregate-near-plane c = search needs
 
 -- src/lib.rt:66:5
 near-plane-requires : tie.Need-near-plane-requires
-near-plane-requires c κs = let P = c .before .before .before .before .before .before .before .before .pre in (P .0, (P .1 .1 .0 .0, (P .1 .1 .0 .1, (P .1 .0 .0, zero-ready (c .before .before .before .before .before .before .before .before .args .w) (c .before .before .before .before .before .before .before .before .args .h) (c .before .before .before .before .before .before .before .before .args .st)))))
+near-plane-requires c κs = (c .before .before .before .before .before .before .pre .0, (c .before .before .before .before .before .before .pre .1 .0 .0, zero-ready (c .before .before .before .before .before .before .args .w) (c .before .before .before .before .before .before .args .h) (c .before .before .before .before .before .before .args .st), c .before .before .before .before .before .before .pre .1 .1 .0))
 
 -- src/lib.rt:68:33
 slice-aggregate-both : tie.Need-slice-aggregate-both
@@ -32,11 +32,11 @@ add-both c = search needs
 
 -- src/lib.rt:68:52
 mul-both : tie.Need-mul-both
-mul-both c = omega (arith, size-max (c .before .before .before .before .before .before .before .before .before .before .before .before .args .w) (c .before .before .before .before .before .before .before .before .before .before .before .before .args .h) (c .before .before .before .before .before .before .before .before .before .before .before .before .args .st) (c .before .before .before .before .before .before .before .before .before .before .before .before .pre .0))
+mul-both c = omega (arith, size-max (c .before .before .before .before .before .before .before .before .before .before .args .w) (c .before .before .before .before .before .before .before .before .before .before .args .h) (c .before .before .before .before .before .before .before .before .before .before .args .st) (c .before .before .before .before .before .before .before .before .before .before .pre .0))
 
 -- src/lib.rt:68:5
 both-requires : tie.Need-both-requires
-both-requires c κs = omega (arith, size-max (c .before .before .before .before .before .before .before .before .before .before .before .before .args .w) (c .before .before .before .before .before .before .before .before .before .before .before .before .args .h) (c .before .before .before .before .before .before .before .before .before .before .before .before .args .st) (c .before .before .before .before .before .before .before .before .before .before .before .before .pre .0), c .before .before .before .before .before .before .before .before .before .before .before .before .pre .1 .0 .1 .long, c .before .before .before .near-plane .ensures .long, zero-ready (c .before .before .before .before .before .before .before .before .before .before .before .before .args .w) (c .before .before .before .before .before .before .before .before .before .before .before .before .args .h) (c .before .before .before .before .before .before .before .before .before .before .before .before .args .st) .long)
+both-requires c κs = omega (arith, size-max (c .before .before .before .before .before .before .before .before .before .before .args .w) (c .before .before .before .before .before .before .before .before .before .before .args .h) (c .before .before .before .before .before .before .before .before .before .before .args .st) (c .before .before .before .before .before .before .before .before .before .before .pre .0), c .before .before .before .before .before .before .before .before .before .before .pre .1 .0 .1 .long, c .before .before .before .near-plane .ensures .long, zero-ready (c .before .before .before .before .before .before .before .before .before .before .args .w) (c .before .before .before .before .before .before .before .before .before .before .args .h) (c .before .before .before .before .before .before .before .before .before .before .args .st) .long)
 
 -- src/lib.rt:69:10
 slice-aggregate-over : tie.Need-slice-aggregate-over
@@ -44,8 +44,9 @@ slice-aggregate-over c = search needs
 
 -- src/lib.rt:69:5
 over-requires : tie.Need-over-requires
-over-requires c κs = let A = c .before .before .before .before .before .before .before .before .before .before .before .before .before .before .before .before .before .args in
-    let P = c .before .before .before .before .before .before .before .before .before .before .before .before .before .before .before .before .before .pre in
+over-requires c κs = 
+    let A = c .before .before .before .before .before .before .before .before .before .before .before .before .before .before .before .args in
+    let P = c .before .before .before .before .before .before .before .before .before .before .before .before .before .before .before .pre in
     let N = c .before .before .before .before .before .before .before .before .near-plane in
     let B = c .before .before .before .before .both in
     let free′ = B .last .1 .1 .0 in
@@ -67,8 +68,9 @@ same-length-2 c = search needs
 
 -- src/lib.rt:44:1
 returns : tie.Need-returns
-returns c = let A = c .before .before .before .before .before .before .before .before .before .before .before .before .before .before .before .before .before .before .before .before .before .before .args in
-    let P = c .before .before .before .before .before .before .before .before .before .before .before .before .before .before .before .before .before .before .before .before .before .before .pre in
+returns c = 
+    let A = c .before .before .before .before .before .before .before .before .before .before .before .before .before .before .before .before .before .before .before .before .args in
+    let P = c .before .before .before .before .before .before .before .before .before .before .before .before .before .before .before .before .before .before .before .before .pre in
     let N = c .before .before .before .before .before .before .before .before .before .before .before .before .before .near-plane in
     let B = c .before .before .before .before .before .before .before .before .before .both in
     let R = c .before .before .before .before .over in
