@@ -15,7 +15,7 @@
 
 enum { MOST = 256, WORDS = 4, REACH = 32, GRID = MOST + 2 };
 
-/* What works on rows is inlined, so that rows stay in registers. */
+/* What works on rows is inlined, so that rows stay in registers. Where a loop is unrolled, the compiler does not do it by itself. */
 #define INLINE static inline __attribute__((always_inline))
 
 /* ---- Rows ---- */
