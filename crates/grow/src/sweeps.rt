@@ -124,7 +124,7 @@ pub fn settle(
 )
     requires { ⌜ Kit w h st (now ring) (now marks) (now got) (now cand) ⌝ }
     ensures { λ _. ⌜ Kit w h st (now (ring .exit)) (now (marks .exit)) (now (got .exit)) (now (cand .entry)) ⌝ }
-    ensures { λ _. ⌜ ((free : ℕ → Bool) → (seed : ℕ → Bool) → Grows w h st free seed (now (ring .entry)) (now (marks .entry)) (now (got .entry)) (now (cand .entry))
+    ensures { λ _. ⌜ ((free seed known : ℕ → Bool) → Grows w h st free seed known (now (ring .entry)) (now (marks .entry)) (now (got .entry)) (now (cand .entry))
         → (now (ring .exit) ≡ grown (h * w) (touch w) free seed (h * w)) × Scratch w h st (λ p. ltb 0 (getD (now (ring .exit)) p 0)) (now (got .exit))) ⌝ }
 {
     while sweep(ring, marks, got, cand, w, h, st) {}

@@ -20,7 +20,7 @@ abbrev μ-loop : tie.MeasureT-loop
 μ-loop ring₀ marks₀ got₀ cand w h st changed₀ r₀ ring marks got changed r = h - r
 
 loop-holds : tie.Need-loop-holds Inv-loop μ-loop
-loop-holds c = let A = c .before .before .before .before .args in (omega arith, refl, refl, c .before .before .before .before .pre, moved-none (A .ring .now) (A .marks .now), (λ e j x y. absurd (omega arith)), λ f s G. G)
+loop-holds c = let A = c .before .before .before .before .args in (omega arith, refl, refl, c .before .before .before .before .pre, moved-none (A .ring .now) (A .marks .now), (λ e j x y. absurd (omega arith)), λ f s n G. G)
 
 add-r : tie.Need-add-r Inv-loop μ-loop
 add-r c = search needs
@@ -72,7 +72,7 @@ loop-again c = let A = c .before .before .before .before .before .before .before
       S .ensures .0,
       moved-yes (L .changed) (S .result) (c .if2 .taken) (L .inv .4) (S .ensures .1 .0),
       (λ e. absurd (true≢false e)),
-      λ f s G. S .ensures .1 .1 .1 f s (L .inv .6 f s G),
+      λ f s n G. S .ensures .1 .1 .1 f s n (L .inv .6 f s n G),
     )
 
 loop-less-2 : tie.Need-loop-less-2 Inv-loop μ-loop
@@ -91,7 +91,7 @@ loop-again-2 c = let A = c .before .before .before .before .before .before .befo
       (λ e. clean-join (A .st * 8) ((L .r + 1) * A .st * 8) ((L .r + 1 + 1) * A .st * 8) (S .last .1 .0)
           (clean-sub (A .st * 8) ((L .r + 1) * A .st * 8) (S .last .1 .0) (L .marks) (S .ensures .1 .0 .fewer (c .if2 .left)) (L .inv .5 e))
           (λ j x y. S .ensures .1 .1 .0 (c .if2 .left) j x (omega (arith, RN)))),
-      λ f s G. S .ensures .1 .1 .1 f s (L .inv .6 f s G),
+      λ f s n G. S .ensures .1 .1 .1 f s n (L .inv .6 f s n G),
     )
 
 loop-less-3 : tie.Need-loop-less-3 Inv-loop μ-loop

@@ -1,25 +1,25 @@
-use mathlib.Core.Path.{_≡_, refl, subst, _∙_}
-use mathlib.Core.Bool.{_&&_}
+use mathlib.Core.Path.{_≡_, refl, sym, ap, subst, _∙_}
+use mathlib.Core.Bool.{Bool, _&&_, cond}
 use Prim.Native.Nat.{ℕ, _≤_, _-_, _+_}
 use native.Mathlib.Omega.{arith}
 use borrow.Author.Needs.{needs}
-use lib.ListN.{length, set, length-set}
+use lib.ListN.{length, getD, set, length-set}
 use lib.Dec.{eqb}
 use Rattle.rules.specs.Images.{bitAt}
-use Rattle.grow.specs.StartLaws.{Ones, byteOnes, ones-none, ones-more, ones-skip, ones-bit, no-bit, bit-on, bit-off'}
-use Rattle.grow.proofs.start.ones_byte.Statement.{statement}
-use Rattle.grow.proofs.start.ones_byte.Tie as tie
+use Rattle.grow.specs.StartLaws.{Filled, byteOnes, filled-none, filled-more, filled-skip, filled-bit, no-bit, bit-on, bit-off'}
+use Rattle.grow.proofs.start.fill_some.Statement.{statement}
+use Rattle.grow.proofs.start.fill_some.Tie as tie
 
 abbrev Inv-loop : tie.InvT-loop
-Inv-loop ring₀ m base k₀ ring k =
-    (k ≤ 8) × (length ring ≡ length ring₀) × Ones (byteOnes m base k) ring ring₀
+Inv-loop ring₀ m base v k₀ ring k =
+    (k ≤ 8) × (length ring ≡ length ring₀) × Filled v (byteOnes m base k) ring ring₀
 
 abbrev μ-loop : tie.MeasureT-loop
-μ-loop ring₀ m base k₀ ring k = 8 - k
+μ-loop ring₀ m base v k₀ ring k = 8 - k
 
 loop-holds : tie.Need-loop-holds Inv-loop μ-loop
 unfolding byteOnes
-loop-holds c = (omega arith, refl, ones-none (λ k x. eqb x (c .args .base + k) && bitAt (c .args .m) k) (c .args .ring .now))
+loop-holds c = (omega arith, refl, filled-none (c .args .v) (λ k x. eqb x (c .args .base + k) && bitAt (c .args .m) k) (c .args .ring .now))
 
 add-k : tie.Need-add-k Inv-loop μ-loop
 add-k c = search needs
@@ -49,9 +49,9 @@ loop-again : tie.Need-loop-again Inv-loop μ-loop
 unfolding byteOnes
 loop-again c = let A = c .before .before .before .args in let L = c .before .before .loop in let u = bit-on (A .m) (L .k) (c .if1 .taken) in (
   omega (arith, c .before .loop-test .taken),
-  length-set (L .ring) (A .base + L .k) 1 ∙ L .inv .1,
-  ones-more (λ k x. eqb x (A .base + k) && bitAt (A .m) k) (L .k) (set (L .ring) (A .base + L .k) 1) (L .ring) (A .ring .now) (L .inv .2)
-      (ones-bit (A .m) (A .base) (L .k) (L .ring) (omega (arith, L .inv .1, c .before .before .before .pre .0 (L .k) (c .before .loop-test .taken) u)) u),
+  length-set (L .ring) (A .base + L .k) (A .v) ∙ L .inv .1,
+  filled-more (A .v) (λ k x. eqb x (A .base + k) && bitAt (A .m) k) (L .k) (set (L .ring) (A .base + L .k) (A .v)) (L .ring) (A .ring .now) (L .inv .2)
+      (filled-bit (A .v) (A .m) (A .base) (L .k) (A .v) (L .ring) (omega (arith, L .inv .1, c .before .before .before .pre .0 (L .k) (c .before .loop-test .taken) u)) (ap (λ (b : Bool). cond b (A .v) (getD (L .ring) (A .base + L .k) 0)) (sym u))),
 )
 
 loop-less-2 : tie.Need-loop-less-2 Inv-loop μ-loop
@@ -62,18 +62,18 @@ unfolding byteOnes
 loop-again-2 c = let A = c .before .before .before .args in let L = c .before .before .loop in (
   omega (arith, c .before .loop-test .taken),
   L .inv .1,
-  ones-more (λ k x. eqb x (A .base + k) && bitAt (A .m) k) (L .k) (L .ring) (L .ring) (A .ring .now) (L .inv .2)
-      (ones-skip (λ x. eqb x (A .base + L .k) && bitAt (A .m) (L .k)) (L .ring) (no-bit (A .m) (A .base) (L .k) (bit-off' (A .m) (L .k) (c .if1 .left)))),
+  filled-more (A .v) (λ k x. eqb x (A .base + k) && bitAt (A .m) k) (L .k) (L .ring) (L .ring) (A .ring .now) (L .inv .2)
+      (filled-skip (A .v) (λ x. eqb x (A .base + L .k) && bitAt (A .m) (L .k)) (L .ring) (no-bit (A .m) (A .base) (L .k) (bit-off' (A .m) (L .k) (c .if1 .left)))),
 )
 
 same-length : tie.Need-same-length Inv-loop μ-loop
 same-length c = c .before .loop .inv .1
 
 returns : tie.Need-returns Inv-loop μ-loop
-returns c = let A = c .before .before .args in let L = c .before .loop in let e : L .k ≡ 8 = omega (arith, c .loop-test .left, L .inv .0) in subst (λ (n : ℕ). Ones (byteOnes (A .m) (A .base) n) (L .ring) (A .ring .now)) e (L .inv .2)
+returns c = let A = c .before .before .args in let L = c .before .loop in let e : L .k ≡ 8 = omega (arith, c .loop-test .left, L .inv .0) in subst (λ (n : ℕ). Filled (A .v) (byteOnes (A .m) (A .base) n) (L .ring) (A .ring .now)) e (L .inv .2)
 
-pub ones-byte-spec : {M : Type 1} → statement M
-ones-byte-spec =
+pub fill-some-spec : {M : Type 1} → statement M
+fill-some-spec =
     tie.close
     (tie.spec
     Inv-loop

@@ -4,20 +4,20 @@ use native.Mathlib.Omega.{arith}
 use borrow.Author.Needs.{needs}
 use lib.ListN.{length}
 use Rattle.image.specs.Planes.{size-max, row-fits}
-use Rattle.grow.specs.StartLaws.{Ones, rowOnes, allOnes, ones-none, ones-more, ones-skip, zero-row}
-use Rattle.grow.proofs.start.ones.Statement.{statement}
-use Rattle.grow.proofs.start.ones.Tie as tie
+use Rattle.grow.specs.StartLaws.{Filled, rowOnes, allOnes, filled-none, filled-more, filled-skip, zero-row}
+use Rattle.grow.proofs.start.fill.Statement.{statement}
+use Rattle.grow.proofs.start.fill.Tie as tie
 
 abbrev Inv-loop : tie.InvT-loop
-Inv-loop ring₀ l w h st r₀ ring r =
-    (r ≤ h) × (length ring ≡ length ring₀) × Ones (allOnes l w st r) ring ring₀
+Inv-loop ring₀ l v w h st r₀ ring r =
+    (r ≤ h) × (length ring ≡ length ring₀) × Filled v (allOnes l w st r) ring ring₀
 
 abbrev μ-loop : tie.MeasureT-loop
-μ-loop ring₀ l w h st r₀ ring r = h - r
+μ-loop ring₀ l v w h st r₀ ring r = h - r
 
 loop-holds : tie.Need-loop-holds Inv-loop μ-loop
 unfolding allOnes
-loop-holds c = let A = c .before .before .args in (omega arith, refl, ones-none (λ r x. rowOnes (A .l .now) ((r + 1) * A .st) (r * A .w) (A .st) x) (A .ring .now))
+loop-holds c = let A = c .before .before .args in (omega arith, refl, filled-none (A .v) (λ r x. rowOnes (A .l .now) ((r + 1) * A .st) (r * A .w) (A .st) x) (A .ring .now))
 
 add-r : tie.Need-add-r Inv-loop μ-loop
 add-r c = search needs
@@ -40,18 +40,18 @@ add-any-3 c = let A = c .before .before .before .before .args in let P = c .befo
 any-requires : tie.Need-any-requires Inv-loop μ-loop
 any-requires c κs = let A = c .before .before .before .before .args in let P = c .before .before .before .before .pre in let L = c .before .loop in let lt = c .loop-test .taken in let SM = size-max (A .w) (A .h) (A .st) (P .0) in let RG = row-fits (L .r + 1) (A .h + 1) (A .st) (omega (arith, lt)) in omega (arith, SM, RG, P .1 .1)
 
-ones-row-requires : tie.Need-ones-row-requires Inv-loop μ-loop
-ones-row-requires c κs = let A = c .before .before .before .before .before .before .before .args in let P = c .before .before .before .before .before .before .before .pre in let L = c .before .before .before .before .loop in let lt = c .before .before .before .loop-test .taken in let SM = size-max (A .w) (A .h) (A .st) (P .0) in let RG = row-fits (L .r + 1) (A .h + 1) (A .st) (omega (arith, lt)) in (P .0, (P .1 .0, (lt, P .1 .1 .0, L .inv .1 ∙ P .1 .1 .1)))
+fill-row-requires : tie.Need-fill-row-requires Inv-loop μ-loop
+fill-row-requires c κs = let A = c .before .before .before .before .before .before .before .args in let P = c .before .before .before .before .before .before .before .pre in let L = c .before .before .before .before .loop in let lt = c .before .before .before .loop-test .taken in let SM = size-max (A .w) (A .h) (A .st) (P .0) in let RG = row-fits (L .r + 1) (A .h + 1) (A .st) (omega (arith, lt)) in (P .0, (P .1 .0, (lt, P .1 .1 .0, L .inv .1 ∙ P .1 .1 .1)))
 
 loop-less : tie.Need-loop-less Inv-loop μ-loop
 loop-less c = omega (arith, c .before .before .before .before .before .before .loop-test .taken)
 
 loop-again : tie.Need-loop-again Inv-loop μ-loop
 unfolding allOnes
-loop-again c = let A = c .before .before .before .before .before .before .before .before .before .before .args in let L = c .before .before .before .before .before .before .before .loop in let O = c .before .before .ones-row in (
+loop-again c = let A = c .before .before .before .before .before .before .before .before .before .before .args in let L = c .before .before .before .before .before .before .before .loop in let O = c .before .before .fill-row in (
   omega (arith, c .before .before .before .before .before .before .loop-test .taken),
   O .kept .0 ∙ L .inv .1,
-  ones-more (λ r x. rowOnes (A .l .now) ((r + 1) * A .st) (r * A .w) (A .st) x) (L .r) (O .last .0) (L .ring) (A .ring .now) (L .inv .2) (O .ensures),
+  filled-more (A .v) (λ r x. rowOnes (A .l .now) ((r + 1) * A .st) (r * A .w) (A .st) x) (L .r) (O .last .0) (L .ring) (A .ring .now) (L .inv .2) (O .ensures),
 )
 
 loop-less-2 : tie.Need-loop-less-2 Inv-loop μ-loop
@@ -62,18 +62,18 @@ unfolding allOnes
 loop-again-2 c = let A = c .before .before .before .before .before .before .args in let L = c .before .before .before .loop in (
   omega (arith, c .before .before .loop-test .taken),
   L .inv .1,
-  ones-more (λ r x. rowOnes (A .l .now) ((r + 1) * A .st) (r * A .w) (A .st) x) (L .r) (L .ring) (L .ring) (A .ring .now) (L .inv .2)
-      (ones-skip (rowOnes (A .l .now) ((L .r + 1) * A .st) (L .r * A .w) (A .st)) (L .ring) (zero-row (A .l .now) ((L .r + 1) * A .st) (L .r * A .w) (A .st) (c .before .any .ensures (c .if1 .left)))),
+  filled-more (A .v) (λ r x. rowOnes (A .l .now) ((r + 1) * A .st) (r * A .w) (A .st) x) (L .r) (L .ring) (L .ring) (A .ring .now) (L .inv .2)
+      (filled-skip (A .v) (rowOnes (A .l .now) ((L .r + 1) * A .st) (L .r * A .w) (A .st)) (L .ring) (zero-row (A .l .now) ((L .r + 1) * A .st) (L .r * A .w) (A .st) (c .before .any .ensures (c .if1 .left)))),
 )
 
 same-length : tie.Need-same-length Inv-loop μ-loop
 same-length c = c .before .loop .inv .1
 
 returns : tie.Need-returns Inv-loop μ-loop
-returns c = let A = c .before .before .before .before .args in let L = c .before .loop in let e : L .r ≡ A .h = omega (arith, c .loop-test .left, L .inv .0) in subst (λ (n : ℕ). Ones (allOnes (A .l .now) (A .w) (A .st) n) (L .ring) (A .ring .now)) e (L .inv .2)
+returns c = let A = c .before .before .before .before .args in let L = c .before .loop in let e : L .r ≡ A .h = omega (arith, c .loop-test .left, L .inv .0) in subst (λ (n : ℕ). Filled (A .v) (allOnes (A .l .now) (A .w) (A .st) n) (L .ring) (A .ring .now)) e (L .inv .2)
 
-pub ones-spec : {M : Type 1} → statement M
-ones-spec =
+pub fill-spec : {M : Type 1} → statement M
+fill-spec =
     tie.close
     (tie.spec
     Inv-loop
@@ -86,7 +86,7 @@ ones-spec =
     mul-any-2
     add-any-3
     any-requires
-    ones-row-requires
+    fill-row-requires
     loop-less
     loop-again
     loop-less-2
