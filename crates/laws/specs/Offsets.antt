@@ -4,7 +4,7 @@ use mathlib.Core.Path.{_≡_, refl, sym, ap, _∙_}
 use mathlib.Core.Logic.{_↔_}
 use mathlib.Core.Bool.{Bool, true, false, not, _||_, cond}
 use mathlib.Core.List.{List, [], _∷_}
-use Prim.Native.Nat.{ℕ, zero, suc, _+_, _-_, _*_}
+use Prim.Native.Nat.{ℕ, zero, suc, _+_, _-_, _*_, _≤_}
 use native.Mathlib.Nat.{zero-mul}
 use native.Mathlib.Omega.{arith}
 use lib.Dec.{eqb}
@@ -12,14 +12,14 @@ use lib.ListN.{length, take, drop}
 use borrow.Author.Tests.{eqb-true, not-false}
 use Rattle.rules.specs.Tools.{refusal, answer}
 use Rattle.rules.specs.Images.{rowBytes, rowsOf, stackBytes}
-use Rattle.rules.specs.Jobs.{be32, get16s, headEnd, partEnd, supportCount, supportEnd, ringCount, settingsIn, storedIn, partIn, supportIn, ringsStored, layoutOf}
-use Rattle.rules.specs.Calls.{saysCopied, readRefusal, partAnswer, supportAnswer, copyCases, copyAnswer, copyRings}
+use Rattle.rules.specs.Jobs.{Job, be32, get16s, headEnd, partEnd, supportCount, supportEnd, ringCount, jobEnd, settingsIn, storedIn, partIn, supportIn, ringsStored, layoutOf, jobIn, fileLength}
+use Rattle.rules.specs.Calls.{saysCopied, readRefusal, partAnswer, supportAnswer, copyCases, copyAnswer, copyRings, writeRefusal}
 use Rattle.rules.specs.declared.Settings.{Settings}
 use Rattle.rules.specs.declared.CopiedRings.the-variants.{Copied, Refused}
 use Rattle.laws.specs.Refusals.{else-both, case-out, answer-fine, answer-refused}
 use Rattle.laws.specs.Numbers.{length-get16s}
-use Rattle.laws.specs.JobFiles.{Accepted, accepted-exactly, rooms, copy-parts, copy-fits}
-use Rattle.laws.specs.RoundTrips.{part-length, support-length}
+use Rattle.laws.specs.JobFiles.{Accepted, accepted-exactly, rooms, copy-parts, copy-fits, writable-exactly, longest-job}
+use Rattle.laws.specs.RoundTrips.{part-length, support-length, accepted-writable, same-length}
 
 module _ (f : List ℕ) (e : readRefusal f ≡ 0) where
   abbrev s : Settings
@@ -124,3 +124,18 @@ copy-exactly f room = (
     go : (x : ℕ) → saysCopied (answer x Copied Refused) ≡ 0 ∷ [] → x ≡ 0
     go zero h = refl
     go (suc x) h = cc
+
+-- The lengths of jobs ------------------------------------------------------------------------------------------------------------
+
+-- a job that is written has 26 bytes besides part, support and rings
+pub length-written : (j : Job) (room : ℕ) → writeRefusal j room ≡ 0 → fileLength j ≡ 26 + length (j .part) + length (j .support) + 2 * length (j .rings)
+unfolding fileLength jobEnd supportEnd partEnd headEnd
+length-written j room e =
+    let v = writable-exactly j room .0 e .0 in
+    omega (arith, v .part, v .support, ap (λ (k : ℕ). k * 2) (v .rings))
+
+-- no job that is read is longer than 75,366,426 bytes
+pub longest-file : (f : List ℕ) → readRefusal f ≡ 0 → length f ≤ 75366426
+longest-file f e =
+    let a = accepted-exactly f .0 e in
+    omega (arith, same-length f a, longest-job (jobIn f) (accepted-writable f a))
