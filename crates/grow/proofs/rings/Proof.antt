@@ -44,7 +44,7 @@ slice-aggregate-over c = search needs
 
 -- src/lib.rt:69:5
 over-requires : tie.Need-over-requires
-over-requires c κs = 
+over-requires c κs =
     let A = c .before .before .before .before .before .before .before .before .before .before .before .before .before .before .before .args in
     let P = c .before .before .before .before .before .before .before .before .before .before .before .before .before .before .before .pre in
     let N = c .before .before .before .before .before .before .before .before .near-plane in
@@ -68,7 +68,7 @@ same-length-2 c = search needs
 
 -- src/lib.rt:44:1
 returns : tie.Need-returns
-returns c = 
+returns c =
     let A = c .before .before .before .before .before .before .before .before .before .before .before .before .before .before .before .before .before .before .before .before .args in
     let P = c .before .before .before .before .before .before .before .before .before .before .before .before .before .before .before .before .before .before .before .before .pre in
     let N = c .before .before .before .before .before .before .before .before .before .before .before .before .before .near-plane in
