@@ -15,7 +15,7 @@ use Rattle.rules.specs.Images.{rowBytes, bitAt}
 use Rattle.laws.specs.Tests.{split}
 use Rattle.laws.specs.Places.{digits-in}
 use Rattle.judge.specs.Search.{Least, bitIn, overlapHere, unheldHere, overlapIn, unheldIn, Sized}
-use Rattle.judge.proofs.Bits.{byte-in, no-bit}
+use Rattle.judge.proofs.BitLaws.{byte-in, no-bit}
 use Rattle.judge.proofs.Finding.{least-none}
 use Rattle.image.specs.Bits.{bit-and}
 use Rattle.image.specs.Rows.{packed}
