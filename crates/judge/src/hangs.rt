@@ -2,11 +2,13 @@
 ghost use mathlib.Core.Path.{_≡_};
 ghost use mathlib.Core.Bool.{true, false, not, _&&_, _||_};
 ghost use Prim.Native.Nat.{ℕ, _+_, _-_, _*_, _<_, _≤_};
+ghost use lib.Dec.{eqb};
 ghost use lib.ListN.{length, getD};
 ghost use Rattle.rules.specs.Images.{rowBytes, bitAt, pixel, ringAt};
 ghost use Rattle.rules.specs.Judging.{unheld};
 ghost use Rattle.image.specs.Rows.{packed};
-ghost use Rattle.judge.specs.Search.{Least, flat, unheldHere, unheldIn, Sized};
+ghost use Rattle.judge.specs.Search.{Least, flat, unheldHere, bareIn, bareHere, Hangs, Sized};
+ghost use Rattle.judge.specs.Sound.{Ones};
 
 fn hanging(up: u8, above: u8, low: u8, below: u8) -> u8
     ensures { λ m. ⌜ ((k : ℕ) → k < 8 → bitAt m k ≡ ((bitAt up k || bitAt above k) && not (bitAt low k || bitAt below k))) ⌝ }
@@ -14,77 +16,82 @@ fn hanging(up: u8, above: u8, low: u8, below: u8) -> u8
     (up | above) & !(low | below)
 }
 
-// Whether every pixel lies over part or support, by whole bytes: n of them from `at` on.
-fn held(low: &[u8], up: &[u8], below: &[u8], above: &[u8], at: usize, n: usize) -> bool
-    requires { ⌜ ((at + n ≤ length (now low)) × (at + n ≤ length (now up))) × ((at + n ≤ length (now below)) × (at + n ≤ length (now above))) ⌝ }
-    ensures { λ b. ⌜ (b ≡ true → (j : ℕ) → j < n → (k : ℕ) → k < 8 → ((bitAt (getD (now (up .entry)) (at + j) 0) k || bitAt (getD (now (above .entry)) (at + j) 0) k) && not (bitAt (getD (now (low .entry)) (at + j) 0) k || bitAt (getD (now (below .entry)) (at + j) 0) k)) ≡ false) ⌝ }
+// The hanging pixels of n bytes, into `out`; and whether there are none.
+fn hang_plane(low: &[u8], up: &[u8], below: &[u8], above: &[u8], out: &mut [u8], n: usize) -> bool
+    requires planes { ⌜ ((n ≤ length (now low)) × (n ≤ length (now up))) × ((n ≤ length (now below)) × (n ≤ length (now above))) ⌝ }
+    requires room { ⌜ n ≤ length (now out) ⌝ }
+    ensures { λ _. ⌜ Hangs (now (low .entry)) (now (up .entry)) (now (below .entry)) (now (above .entry)) n (now (out .exit)) ⌝ }
+    ensures { λ b. ⌜ (b ≡ true → (j : ℕ) → j < n → getD (now (out .exit)) j 0 ≡ 0) ⌝ }
 {
     let mut all: u8 = 0;
     let mut j = 0;
     while j < n {
-        all = all | hanging(up[at + j], above[at + j], low[at + j], below[at + j]);
+        let m = hanging(up[j], above[j], low[j], below[j]);
+        out[j] = m;
+        all = all | m;
         j += 1;
     }
     all == 0
 }
 
-fn unheld_row(
-    low: &[u8],
-    up: &[u8],
-    below: &[u8],
-    above: &[u8],
-    rings: &[u16],
-    at: usize,
-    x: usize,
-    w: usize,
-) -> usize
-    requires fits { ⌜ (w ≤ 256) × (x + w ≤ length (now rings)) ⌝ }
-    requires rows { ⌜ ((at + rowBytes w ≤ length (now low)) × (at + rowBytes w ≤ length (now up))) × ((at + rowBytes w ≤ length (now below)) × (at + rowBytes w ≤ length (now above))) ⌝ }
-    ensures { λ r. ⌜ Least 0 w (unheldIn (now (low .entry)) (now (up .entry)) (now (below .entry)) (now (above .entry)) (now (rings .entry)) at x) r ⌝ }
+// The first of eight pixels from x on that hangs by the byte m and has no ring; or 8. Mostly all that hang have one.
+fn bare_eight(m: u8, rings: &[u16], ones: &[u16], x: usize) -> usize
+    requires { ⌜ (x + 8 ≤ length (now rings)) × Ones (now ones) ⌝ }
+    ensures { λ r. ⌜ Least 0 8 (λ k. bitAt m k && eqb (getD (now (rings .entry)) (x + k) 0) 0) r ⌝ }
 {
-    if held(low, up, below, above, at, limits::row_bytes(w)) {
-        return w;
+    if m == 0 {
+        return 8;
     }
+    if crate::eights::covered(rings, ones, x, m) {
+        return 8;
+    }
+    crate::bits::bare_bit(m, rings, x, 8)
+}
+
+// The first unheld pixel of a row of hanging pixels, whose bytes start at `at` and whose rings start at x.
+fn bare_bytes(hang: &[u8], rings: &[u16], ones: &[u16], at: usize, x: usize, w: usize) -> usize
+    requires { ⌜ ((w ≤ 256) × (x + w ≤ length (now rings))) × ((at + rowBytes w ≤ length (now hang)) × Ones (now ones)) ⌝ }
+    ensures { λ r. ⌜ Least 0 w (bareIn (now (hang .entry)) (now (rings .entry)) at x) r ⌝ }
+{
     let mut c = 0;
     let mut b = at;
-    while c < w {
-        let m = hanging(up[b], above[b], low[b], below[b]);
-        if m != 0 {
-            let end = crate::bits::smaller(w - c, 8);
-            let k = crate::bits::bare_bit(m, rings, x + c, end);
-            if k < end {
-                return c + k;
-            }
+    while c + 8 <= w {
+        let k = bare_eight(hang[b], rings, ones, x + c);
+        if k < 8 {
+            return c + k;
         }
         c += 8;
         b += 1;
     }
-    w
+    if w <= c {
+        return w;
+    }
+    c + crate::bits::bare_bit(hang[b], rings, x + c, w - c)
 }
 
-// The first pixel of the upper plane that nothing holds. A plane that lies over part and support is passed over by whole bytes.
-fn unheld_plane(
-    low: &[u8],
-    up: &[u8],
-    below: &[u8],
-    above: &[u8],
-    rings: &[u16],
-    w: usize,
-    h: usize,
-) -> usize
-    requires fits { ⌜ Sized w h × (length (now rings) ≡ h * w) ⌝ }
-    requires planes { ⌜ ((length (now low) ≡ h * rowBytes w) × (length (now up) ≡ h * rowBytes w)) × ((length (now below) ≡ h * rowBytes w) × (length (now above) ≡ h * rowBytes w)) ⌝ }
-    ensures { λ r. ⌜ Least 0 (h * w) (unheldHere (packed w (now (low .entry))) (packed w (now (up .entry))) (packed w (now (below .entry))) (packed w (now (above .entry))) (λ p. getD (now (rings .entry)) p 0)) r ⌝ }
+// The same. A row in which nothing hangs is passed over.
+fn unheld_row(hang: &[u8], rings: &[u16], ones: &[u16], at: usize, x: usize, w: usize) -> usize
+    requires { ⌜ ((w ≤ 256) × (x + w ≤ length (now rings))) × ((at + rowBytes w ≤ length (now hang)) × Ones (now ones)) ⌝ }
+    ensures { λ r. ⌜ Least 0 w (bareIn (now (hang .entry)) (now (rings .entry)) at x) r ⌝ }
 {
     let rb = limits::row_bytes(w);
-    if held(low, up, below, above, 0, h * rb) {
-        return h * w;
+    if !image::planes::any(hang, at, at + rb) {
+        return w;
     }
+    bare_bytes(hang, rings, ones, at, x, w)
+}
+
+// The first unheld pixel of a plane of hanging pixels.
+fn unheld_rows(hang: &[u8], rings: &[u16], ones: &[u16], w: usize, h: usize) -> usize
+    requires { ⌜ (Sized w h × (length (now rings) ≡ h * w)) × ((h * rowBytes w ≤ length (now hang)) × Ones (now ones)) ⌝ }
+    ensures { λ r. ⌜ Least 0 (h * w) (bareHere w (now (hang .entry)) (now (rings .entry))) r ⌝ }
+{
+    let rb = limits::row_bytes(w);
     let mut at = 0;
     let mut x = 0;
     let mut row = 0;
     while row < h {
-        let c = unheld_row(low, up, below, above, rings, at, x, w);
+        let c = unheld_row(hang, rings, ones, at, x, w);
         if c < w {
             return x + c;
         }
@@ -95,9 +102,41 @@ fn unheld_plane(
     x
 }
 
-// The first unheld pixel of the stack.
-pub fn unheld_at(part: &[u8], sup: &[u8], rings: &[u16], w: usize, h: usize, n: usize) -> usize
-    requires { ⌜ (Sized w h × ((1 ≤ n) × (n ≤ 512))) × ((length (now part) ≡ n * h * rowBytes w) × ((length (now sup) ≡ n * h * rowBytes w) × (length (now rings) ≡ (n - 1) * (h * w)))) ⌝ }
+// The first pixel of the upper plane that nothing holds. A pair in which nothing hangs is passed over.
+fn unheld_plane(
+    low: &[u8],
+    up: &[u8],
+    below: &[u8],
+    above: &[u8],
+    rings: &[u16],
+    ones: &[u16],
+    w: usize,
+    h: usize,
+) -> usize
+    requires fits { ⌜ Sized w h × ((length (now rings) ≡ h * w) × Ones (now ones)) ⌝ }
+    requires planes { ⌜ ((length (now low) ≡ h * rowBytes w) × (length (now up) ≡ h * rowBytes w)) × ((length (now below) ≡ h * rowBytes w) × (length (now above) ≡ h * rowBytes w)) ⌝ }
+    ensures { λ r. ⌜ Least 0 (h * w) (unheldHere (packed w (now (low .entry))) (packed w (now (up .entry))) (packed w (now (below .entry))) (packed w (now (above .entry))) (λ p. getD (now (rings .entry)) p 0)) r ⌝ }
+{
+    let rb = limits::row_bytes(w);
+    let mut hang = [0u8; 8192];
+    if hang_plane(low, up, below, above, &mut hang, h * rb) {
+        return h * w;
+    }
+    unheld_rows(&hang, rings, ones, w, h)
+}
+
+// The first unheld pixel of the stack, pair by pair.
+fn unheld_pairs(
+    part: &[u8],
+    sup: &[u8],
+    rings: &[u16],
+    ones: &[u16],
+    w: usize,
+    h: usize,
+    n: usize,
+) -> usize
+    requires fits { ⌜ (Sized w h × ((1 ≤ n) × (n ≤ 512))) × ((length (now part) ≡ n * h * rowBytes w) × ((length (now sup) ≡ n * h * rowBytes w) × (length (now rings) ≡ (n - 1) * (h * w)))) ⌝ }
+    requires table { ⌜ Ones (now ones) ⌝ }
     ensures { λ r. ⌜ Least 0 ((n - 1) * (h * w)) (flat w h (unheld (pixel w h (now (part .entry))) (pixel w h (now (sup .entry))) (ringAt w h (now (rings .entry))))) r ⌝ }
 {
     let bytes = h * limits::row_bytes(w);
@@ -116,6 +155,7 @@ pub fn unheld_at(part: &[u8], sup: &[u8], rings: &[u16], w: usize, h: usize, n: 
             &sup[at..mid],
             &sup[mid..end],
             &rings[x..next],
+            ones,
             w,
             h,
         );
@@ -127,4 +167,14 @@ pub fn unheld_at(part: &[u8], sup: &[u8], rings: &[u16], w: usize, h: usize, n: 
         i += 1;
     }
     x
+}
+
+// The first unheld pixel of the stack.
+pub fn unheld_at(part: &[u8], sup: &[u8], rings: &[u16], w: usize, h: usize, n: usize) -> usize
+    requires { ⌜ (Sized w h × ((1 ≤ n) × (n ≤ 512))) × ((length (now part) ≡ n * h * rowBytes w) × ((length (now sup) ≡ n * h * rowBytes w) × (length (now rings) ≡ (n - 1) * (h * w)))) ⌝ }
+    ensures { λ r. ⌜ Least 0 ((n - 1) * (h * w)) (flat w h (unheld (pixel w h (now (part .entry))) (pixel w h (now (sup .entry))) (ringAt w h (now (rings .entry))))) r ⌝ }
+{
+    let mut ones = [0u16; 2048];
+    crate::eights::fill_ones(&mut ones);
+    unheld_pairs(part, sup, rings, &ones, w, h, n)
 }
