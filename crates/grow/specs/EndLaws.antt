@@ -17,7 +17,7 @@ use Rattle.image.specs.Loops.{Bits2, butNot}
 use Rattle.image.specs.Planes.{wide-row, spot-size, scratch-seen, scratch-op, scratch-same, framed-scratch}
 use Rattle.image.specs.Scratch.{bitOf, spot, Sizes, Framed, Scratch, seen}
 use Rattle.image.specs.TouchLaws.{touching-out}
-use Rattle.grow.specs.Fronts.{Apart, NearBy, Afloat, Waved, Landed}
+use Rattle.grow.specs.Fronts.{Apart, NearBy, Afloat, Waved, Still, Landed}
 use Rattle.grow.specs.LeastLaws.{plane-max}
 use Rattle.grow.specs.Marks.{Kit, Grows}
 use Rattle.grow.specs.Relaxing.{at-rest}
@@ -151,7 +151,7 @@ none-reached w h st z front left reached sr none p lp a t =
     off p lp = scratch-seen w h st z (λ p. false) reached (record { pixel = λ r c lr lc. none (spot st r c) (omega arith) (spot-size w h st z r c lr (omega (arith, wide-row w h st z))); rest = sr .rest }) p lp
 
 -- no bit is set in the one plane, or none in the other: nothing touches
-pub apart-planes : (w h st : ℕ) → Sizes w h st → (front left : List ℕ) → ((i j : ℕ) → i < (h + 2) * st * 8 → j < (h + 2) * st * 8 → bitOf front i ≡ true → bitOf left j ≡ true → ⊥)
+pub apart-planes : (w h st : ℕ) → Sizes w h st → (front left : List ℕ) → Still ((h + 2) * st) front left
     → (p : ℕ) → p < h * w → seen w st left p ≡ true → touching (h * w) (touch w) (seen w st front) p ≡ true → ⊥
 unfolding seen
 apart-planes w h st z front left none p lp a t =

@@ -8,7 +8,7 @@ use lib.ListN.{getD, length}
 use Rattle.rules.specs.Demands.{Joined}
 use Rattle.rules.specs.Images.{Plane}
 use Rattle.rules.specs.Planning.{near, source, touch, grown}
-use Rattle.image.specs.Scratch.{Sizes, Ready, Scratch, seen}
+use Rattle.image.specs.Scratch.{bitOf, Sizes, Ready, Scratch, seen}
 
 -- no pixel is in both planes
 abbrev pub Apart : ℕ → ℕ → ℕ → List ℕ → List ℕ → Type 0
@@ -31,6 +31,17 @@ pub record Waved (w h st k : ℕ) (over seed : Plane) (ring front left : List �
   pub rings : ring ≡ grown (h * w) (touch w) over seed k
   pub fronts : (p : ℕ) → p < h * w → seen w st front p ≡ source seed (λ o. getD ring o 0) k p
   pub lefts : (p : ℕ) → p < h * w → seen w st left p ≡ (over p && eqb (getD ring p 0) 0)
+
+-- no bit of the one plane, or none of the other, is set in n bytes: no wave goes on
+abbrev pub Still : ℕ → List ℕ → List ℕ → Type 0
+Still n front left = (i j : ℕ) → i < n * 8 → j < n * 8 → bitOf front i ≡ true → bitOf left j ≡ true → ⊥
+
+-- waves were made, one at least and t at the most
+pub record Rolled (w h st t : ℕ) (ring front left ring' front' left' : List ℕ) : Type 0 where
+  pub number : ℕ
+  pub some-wave : 0 < number
+  pub most : number ≤ t
+  pub waved : (over seed : Plane) → Waved w h st 0 over seed ring front left → Waved w h st number over seed ring' front' left'
 
 -- the last wave is in: at least one was made, all that it reached is near, and got has the pixels with a ring
 pub record Landed (w h st q k : ℕ) (low over seed : Plane) (ring front left got : List ℕ) : Type 0 where

@@ -2,8 +2,8 @@
 use mathlib.Core.Path.{_≡_, refl, sym, ap, ap₂, subst, _∙_}
 use mathlib.Core.List.{List}
 use mathlib.Core.Bool.{Bool, true, false, _&&_, _||_, cond}
-use Prim.Native.Nat.{ℕ, _+_, _-_, _*_, _/_, _%_, _^_, _≤_, _<_}
-use native.Mathlib.Nat.{mod-lt, div-add-mod', div-lt-iff-lt-mul}
+use Prim.Native.Nat.{ℕ, zero, suc, _+_, _-_, _*_, _/_, _%_, _^_, _≤_, _<_}
+use native.Mathlib.Nat.{mod-lt, div-add-mod', div-lt-iff-lt-mul, add-zero, add-suc, mul-le-mul-right}
 use native.Mathlib.Decide.{ℕ-discrete}
 use native.Mathlib.Omega.{arith}
 use lib.Arith.{digits-lt, digits-div, digits-mod}
@@ -16,7 +16,7 @@ use Rattle.rules.specs.Tools.{some}
 use Rattle.laws.specs.Tests.{split, bool-eq, clash, and-l, and-r, and-in, some-in, some-out}
 use Rattle.image.specs.Bits.{zero-bit}
 use Rattle.image.specs.Filling.{bit-here}
-use Rattle.image.specs.Planes.{row-fits, wide-row, spot-one, spot-size}
+use Rattle.image.specs.Planes.{row-next, row-fits, wide-row, spot-one, spot-size}
 use Rattle.image.specs.Scratch.{bitOf, spot, Sizes, Framed, seen}
 
 -- out is was, with v where s holds
@@ -48,6 +48,10 @@ module _ (v : ℕ) where
   pub filled-more : (f : ℕ → ℕ → Bool) (i : ℕ) (l2 l1 l0 : List ℕ) → Filled v (λ x. some i (λ i. f i x)) l1 l0 → Filled v (f i) l2 l1 → Filled v (λ x. some (i + 1) (λ i. f i x)) l2 l0
   filled-more f i l2 l1 l0 a b x =
       b x ∙ ap (λ (u : ℕ). cond (f i x) v u) (a x) ∙ cond-or (f i x) (some i (λ i. f i x)) v (getD l0 x 0) ∙ ap (λ (t : Bool). cond t v (getD l0 x 0)) (sym (some-suc i (λ i. f i x)))
+
+  -- the same places, said otherwise
+  pub filled-same : (f g : ℕ → Bool) (out was : List ℕ) → ((x : ℕ) → g x ≡ f x) → Filled v f out was → Filled v g out was
+  filled-same f g out was e a x = a x ∙ ap (λ (t : Bool). cond t v (getD was x 0)) (sym (e x))
 
   pub filled-skip : (f : ℕ → Bool) (l : List ℕ) → ((x : ℕ) → f x ≡ false) → Filled v f l l
   filled-skip f l e x = ap (λ (t : Bool). cond t v (getD l x 0)) (sym (e x))
@@ -84,6 +88,30 @@ pub zero-row : (l : List ℕ) (i0 base n : ℕ) → ((j : ℕ) → i0 * 8 ≤ j 
 unfolding rowOnes byteOnes
 zero-row l i0 base n e x = some-none n (λ b. byteOnes (getD l (i0 + b) 0) (base + b * 8) 8 x)
     (λ b lb. some-none 8 (λ k. eqb x (base + b * 8 + k) && bitAt (getD l (i0 + b) 0) k) (λ k lk. no-bit (getD l (i0 + b) 0) (base + b * 8) k (sym (bit-here l (i0 + b) k lk) ∙ e ((i0 + b) * 8 + k) (omega arith) (omega arith)) x))
+
+-- rows with nothing to write
+rows-skip : (l : List ℕ) (w st a n : ℕ) → ((j : ℕ) → (a + 1) * st * 8 ≤ j → j < (a + n + 1) * st * 8 → bitOf l j ≡ false) → (x : ℕ) → allOnes l w st (a + n) x ≡ allOnes l w st a x
+unfolding allOnes
+rows-skip l w st a zero e x = ap (λ (k : ℕ). some k (λ r. rowOnes l ((r + 1) * st) (r * w) st x)) (add-zero a)
+rows-skip l w st a (suc n) e x =
+    ap (λ (k : ℕ). some k (λ r. rowOnes l ((r + 1) * st) (r * w) st x)) (add-suc a n) ∙ some-next (a + n) (λ r. rowOnes l ((r + 1) * st) (r * w) st x)
+    (zero-row l ((a + n + 1) * st) ((a + n) * w) st
+    (λ j u v. e j (omega (arith, mul-le-mul-right st (le-add a n))) (omega (arith, row-next (a + n + 1) st, ap (λ (k : ℕ). k * st) (shift a n)))) x)
+    ∙ rows-skip l w st a n (λ j u v. e j u (omega (arith, row-next (a + n + 1) st, ap (λ (k : ℕ). k * st) (shift a n)))) x
+  where
+    shift : (a n : ℕ) → a + suc n + 1 ≡ a + n + 1 + 1
+    shift a n = omega arith
+
+    le-add : (a n : ℕ) → a + 1 ≤ a + n + 1
+    le-add a n = omega arith
+
+    some-next : (n : ℕ) (f : ℕ → Bool) → f n ≡ false → some (suc n) f ≡ some n f
+    some-next n f z = ap (λ (k : ℕ). some k f) (sym (native.Mathlib.Numerals.add-one n)) ∙ some-suc n f ∙ ap (λ (b : Bool). b || some n f) z
+
+pub rows-skip-to : (l : List ℕ) (w st a e : ℕ) → a ≤ e → ((j : ℕ) → (a + 1) * st * 8 ≤ j → j < (e + 1) * st * 8 → bitOf l j ≡ false) → (x : ℕ) → allOnes l w st e x ≡ allOnes l w st a x
+rows-skip-to l w st a e h =
+    let q : a + (e - a) ≡ e = omega arith in
+    subst (λ (k : ℕ). ((j : ℕ) → (a + 1) * st * 8 ≤ j → j < (k + 1) * st * 8 → bitOf l j ≡ false) → (x : ℕ) → allOnes l w st k x ≡ allOnes l w st a x) q (rows-skip l w st a (e - a))
 
 -- all of them
 module _ (w h st : ℕ) (z : Sizes w h st) (l : List ℕ) (fr : Framed w h st l) where

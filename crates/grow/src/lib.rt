@@ -83,9 +83,9 @@ fn over(
     image::planes::copy(seed, &mut front, 0, n);
     let mut left = [0u8; 8704];
     image::planes::copy(plane, &mut left, 0, n);
-    crate::waves::waves(ring, &mut front, &mut left, w, h, st, t);
+    let open = crate::waves::waves(ring, &mut front, &mut left, w, h, st, t);
     image::planes::but_not(plane, &left, excused, n);
-    if !crate::waves::goes_on(&front, &left, n) {
+    if !open {
         return;
     }
     onward(lower, &front, &left, ring, excused, w, h, st, q);

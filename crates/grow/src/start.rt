@@ -1,6 +1,7 @@
 // The rings before the first wave, and a number written where a plane is set.
 ghost use mathlib.Core.Path.{_≡_};
-ghost use mathlib.Core.Bool.{true, cond};
+ghost use mathlib.Core.Bool.{true};
+ghost use mathlib.Core.List.{List};
 ghost use Prim.Native.Nat.{ℕ, _+_, _*_, _<_, _≤_};
 ghost use lib.ListN.{length, getD};
 ghost use Rattle.rules.specs.Images.{bitAt};
@@ -18,29 +19,8 @@ pub fn zero(ring: &mut [u16])
     }
 }
 
-// v where bit k of m is set, and else what was there.
-fn pick(m: u8, k: usize, v: u16, old: u16) -> u16
-    requires { ⌜ k < 8 ⌝ }
-    ensures { λ r. ⌜ r ≡ cond (bitAt m k) v old ⌝ }
-{
-    if (m >> (7 - k)) & 1 == 1 { v } else { old }
-}
-
-// Writes v at the set bits of m, from base on, where all eight places exist: without a branch, so that it is done in one go.
-fn fill_eight(ring: &mut [u16], m: u8, base: usize, v: u16)
-    requires { ⌜ base + 8 ≤ length (now ring) ⌝ }
-    ensures { λ _. ⌜ Filled v (byteOnes m base 8) (now (ring .exit)) (now (ring .entry)) ⌝ }
-{
-    let mut k: usize = 0;
-    while k < 8 {
-        let i = base + k;
-        ring[i] = pick(m, k, v, ring[i]);
-        k += 1;
-    }
-}
-
-// Writes v at the set bits of m, from base on, where only their places need exist.
-fn fill_some(ring: &mut [u16], m: u8, base: usize, v: u16)
+// Writes v at the set bits of m, from base on.
+fn fill_byte(ring: &mut [u16], m: u8, base: usize, v: u16)
     requires { ⌜ ((k : ℕ) → k < 8 → bitAt m k ≡ true → base + k < length (now ring)) ⌝ }
     requires { ⌜ base ≤ 70000 ⌝ }
     ensures { λ _. ⌜ Filled v (byteOnes m base 8) (now (ring .exit)) (now (ring .entry)) ⌝ }
@@ -53,18 +33,6 @@ fn fill_some(ring: &mut [u16], m: u8, base: usize, v: u16)
             ring[base + j] = v;
         }
     }
-}
-
-fn fill_byte(ring: &mut [u16], m: u8, base: usize, v: u16)
-    requires { ⌜ ((k : ℕ) → k < 8 → bitAt m k ≡ true → base + k < length (now ring)) ⌝ }
-    requires { ⌜ base ≤ 70000 ⌝ }
-    ensures { λ _. ⌜ Filled v (byteOnes m base 8) (now (ring .exit)) (now (ring .entry)) ⌝ }
-{
-    if base + 8 <= ring.len() {
-        fill_eight(ring, m, base, v);
-        return;
-    }
-    fill_some(ring, m, base, v);
 }
 
 // Writes v at the pixels of one row.
@@ -87,7 +55,32 @@ fn fill_row(ring: &mut [u16], l: &[u8], v: u16, w: usize, h: usize, st: usize, r
     }
 }
 
-// Writes v at the pixels of a plane.
+// Writes v at the pixels of the rows from a up to b, after those before a.
+fn fill_rows(ring: &mut [u16], l: &[u8], v: u16, w: usize, h: usize, st: usize, a: usize, b: usize)
+    requires { ⌜ Sizes w h st ⌝ }
+    requires { ⌜ Framed w h st (now l) ⌝ }
+    requires { ⌜ (a ≤ b) × (b ≤ h) × (8704 ≤ length (now l)) × (length (now ring) ≡ h * w) ⌝ }
+    ensures { λ _. ⌜ ((was : List ℕ) → Filled v (allOnes (now (l .entry)) w st a) (now (ring .entry)) was → Filled v (allOnes (now (l .entry)) w st b) (now (ring .exit)) was) ⌝ }
+{
+    let mut r = a;
+    while r < b {
+        let y = r;
+        r += 1;
+        if image::planes::any(l, (y + 1) * st, (y + 1) * st + st) {
+            fill_row(ring, l, v, w, h, st, y);
+        }
+    }
+}
+
+// The row eight further, and h where there is none.
+fn eight_on(r: usize, h: usize) -> usize
+    requires { ⌜ (r < h) × (h ≤ 256) ⌝ }
+    ensures { λ e. ⌜ (r < e) × (e ≤ h) ⌝ }
+{
+    if r + 8 < h { r + 8 } else { h }
+}
+
+// Writes v at the pixels of a plane, eight rows at a time: most have none.
 pub fn fill(ring: &mut [u16], l: &[u8], v: u16, w: usize, h: usize, st: usize)
     requires { ⌜ Sizes w h st ⌝ }
     requires { ⌜ Framed w h st (now l) ⌝ }
@@ -97,9 +90,9 @@ pub fn fill(ring: &mut [u16], l: &[u8], v: u16, w: usize, h: usize, st: usize)
     let mut r: usize = 0;
     while r < h {
         let y = r;
-        r += 1;
-        if image::planes::any(l, (y + 1) * st, (y + 1) * st + st) {
-            fill_row(ring, l, v, w, h, st, y);
+        r = eight_on(y, h);
+        if image::planes::any(l, (y + 1) * st, (r + 1) * st) {
+            fill_rows(ring, l, v, w, h, st, y, r);
         }
     }
 }

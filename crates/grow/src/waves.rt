@@ -5,7 +5,7 @@ ghost use Prim.Native.Nat.{ℕ, _+_, _*_, _<_, _≤_};
 ghost use lib.ListN.{length};
 ghost use Rattle.image.specs.Loops.{Within};
 ghost use Rattle.image.specs.Scratch.{bitOf};
-ghost use Rattle.grow.specs.Fronts.{Afloat, Waved};
+ghost use Rattle.grow.specs.Fronts.{Afloat, Rolled, Still, Waved};
 
 // Takes the bits of b off.
 fn take_off(out: &mut [u8], b: &[u8], n: usize)
@@ -20,14 +20,14 @@ fn take_off(out: &mut [u8], b: &[u8], n: usize)
 }
 
 // Whether both planes have a bit set: else no wave goes on.
-pub fn goes_on(front: &[u8], left: &[u8], n: usize) -> bool
+fn goes_on(front: &[u8], left: &[u8], n: usize) -> bool
     requires { ⌜ (n ≤ length (now front)) × (n ≤ length (now left)) ⌝ }
-    ensures { λ d. ⌜ (d ≡ false → (i j : ℕ) → i < n * 8 → j < n * 8 → bitOf (now (front .entry)) i ≡ true → bitOf (now (left .entry)) j ≡ true → ⊥) ⌝ }
+    ensures { λ d. ⌜ (d ≡ false → Still n (now (front .entry)) (now (left .entry))) ⌝ }
 {
-    if !image::planes::any(front, 0, n) {
+    if !image::planes::any(left, 0, n) {
         return false;
     }
-    image::planes::any(left, 0, n)
+    image::planes::any(front, 0, n)
 }
 
 // From k waves to k + 1: what is left and touches the front gets ring k + 1, and is the next front.
@@ -53,7 +53,7 @@ fn wave(
     take_off(left, &next, n);
 }
 
-// At most t waves, fewer where no wave goes on; tells how many.
+// At most t waves; false where no wave goes on.
 pub fn waves(
     ring: &mut [u16],
     front: &mut [u8],
@@ -62,11 +62,12 @@ pub fn waves(
     h: usize,
     st: usize,
     t: usize,
-) -> usize
+) -> bool
     requires { ⌜ Afloat w h st (now ring) (now front) (now left) ⌝ }
     requires { ⌜ (0 < t) × (t ≤ 32) ⌝ }
-    ensures { λ k. ⌜ (0 < k) × (k ≤ t) × Afloat w h st (now (ring .exit)) (now (front .exit)) (now (left .exit)) ⌝ }
-    ensures { λ k. ⌜ ((over seed : ℕ → Bool) → Waved w h st 0 over seed (now (ring .entry)) (now (front .entry)) (now (left .entry)) → Waved w h st k over seed (now (ring .exit)) (now (front .exit)) (now (left .exit))) ⌝ }
+    ensures { λ _. ⌜ Afloat w h st (now (ring .exit)) (now (front .exit)) (now (left .exit)) ⌝ }
+    ensures { λ _. ⌜ Rolled w h st t (now (ring .entry)) (now (front .entry)) (now (left .entry)) (now (ring .exit)) (now (front .exit)) (now (left .exit)) ⌝ }
+    ensures { λ d. ⌜ (d ≡ false → Still ((h + 2) * st) (now (front .exit)) (now (left .exit))) ⌝ }
 {
     let n = (h + 2) * st;
     let mut k: usize = 0;
@@ -74,10 +75,10 @@ pub fn waves(
         wave(ring, front, left, w, h, st, k);
         k += 1;
         if !goes_on(front, left, n) {
-            return k;
+            return false;
         }
     }
-    k
+    true
 }
 
 // The number of waves whose pixels are near by themselves: ring k is within k rows and k columns of a seed. More than four cost

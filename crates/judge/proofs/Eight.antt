@@ -14,7 +14,7 @@ use Rattle.laws.specs.Tests.{split, clash, and-in, some-in}
 use Rattle.laws.specs.Places.{digits-in}
 use Rattle.laws.specs.Neighbours.{Touching, touch-out, touch-in}
 use Rattle.judge.specs.Search.{bitIn, badBy, lender}
-use Rattle.judge.proofs.Bits.{and-true}
+use Rattle.judge.proofs.BitLaws.{and-true}
 use Rattle.judge.proofs.Planes.{row-in, plane-at, in-plane}
 use Rattle.image.specs.Rows.{packed}
 use Rattle.judge.proofs.Finding.{some-none}

@@ -35,6 +35,11 @@ module _ (m : ℕ) (f g : ℕ → Bool) (x n k : ℕ) (before : (y : ℕ) → y 
   stretch-hit l h =
       record { low = omega arith; bound = omega arith; before = λ y a b. passed y b (omega arith) (omega arith); at = λ _. same k h ∙ r .at h }
 
+  pub stretch-last : x + n ≡ m → Least 0 m f (x + k)
+  stretch-last e =
+      let b : k ≤ n = r .bound in
+      record { low = omega arith; bound = omega arith; before = λ y a l. passed y l (omega arith) b; at = λ l. same k (omega arith) ∙ r .at (omega arith) }
+
   pub stretch-more : (x' : ℕ) → n ≤ k → ((y : ℕ) → y < x' → y < m → y < x + n) → (y : ℕ) → y < x' → y < m → f y ≡ false
   stretch-more x' h cover y a b = passed y (omega (arith, cover y a b)) b (r .bound)
 

@@ -1,5 +1,5 @@
 -- The laws that the proofs of the checker share.
-pub mod Bits
+pub mod BitLaws
 pub mod Finding
 pub mod Planes
 pub mod Rows
@@ -7,3 +7,5 @@ pub mod Eight
 pub mod Verdicts
 pub mod Scratch
 pub mod Trust
+pub mod Quick
+pub mod Holding

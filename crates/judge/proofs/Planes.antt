@@ -15,7 +15,7 @@ use Rattle.rules.specs.Judging.{overlap, badRing, unheld}
 use Rattle.laws.specs.Places.{digits-in}
 use Rattle.image.specs.Rows.{packed}
 use Rattle.image.specs.Packed.{row-bit}
-use Rattle.judge.specs.Search.{flat, bitIn, overlapHere, badHere, unheldHere, overlapIn, unheldIn}
+use Rattle.judge.specs.Search.{flat, bitIn, overlapHere, badHere, unheldHere, overlapIn, bareIn, bareHere}
 
 -- Rows of a plane -----------------------------------------------------------------------------------------------------
 
@@ -38,11 +38,9 @@ pub overlap-row : (w : ℕ) (part sup : List ℕ) (r at rb x : ℕ) → at ≡ r
 unfolding overlapHere overlapIn
 overlap-row w part sup r at rb x ea er ex c l = rw (ex, ea, er, plane-at w part r c l, plane-at w sup r c l)
 
-pub unheld-row : (w : ℕ) (low up below above rings : List ℕ) (r at rb x : ℕ) → at ≡ r * rb → rb ≡ rowBytes w → x ≡ r * w → (c : ℕ) → c < w →
-    unheldHere (packed w low) (packed w up) (packed w below) (packed w above) (λ p. getD rings p 0) (x + c) ≡ unheldIn low up below above rings at x c
-unfolding unheldHere unheldIn
-unheld-row w low up below above rings r at rb x ea er ex c l =
-    rw (ex, ea, er, plane-at w low r c l, plane-at w up r c l, plane-at w below r c l, plane-at w above r c l)
+pub bare-row : (w : ℕ) (m rings : List ℕ) (r at rb x : ℕ) → at ≡ r * rb → rb ≡ rowBytes w → x ≡ r * w → (c : ℕ) → c < w → bareHere w m rings (x + c) ≡ bareIn m rings at x c
+unfolding bareHere bareIn
+bare-row w m rings r at rb x ea er ex c l = rw (ex, ea, er, plane-at w m r c l)
 
 -- Planes of a stack ---------------------------------------------------------------------------------------------------
 

@@ -8,16 +8,17 @@ use native.Mathlib.Omega.{arith}
 use lib.Arith.{digits-lt}
 use lib.Bits.{bitAnd, bitOr, or-add-and, and-le-l, and-le-r}
 use lib.Dec.{eqb, ltb}
-use lib.ListN.{getD, length}
+use lib.ListN.{getD, length, set}
 use borrow.Author.Tests.{ltb-true, ltb-false}
 use borrow.Author.Count.{below-more}
 use Rattle.rules.specs.Images.{rowBytes, bitAt}
 use Rattle.laws.specs.Tests.{split}
 use Rattle.laws.specs.Places.{digits-in}
-use Rattle.judge.specs.Search.{Least, bitIn, overlapHere, unheldHere, overlapIn, unheldIn, Sized}
-use Rattle.judge.proofs.Bits.{byte-in, no-bit}
+use Rattle.judge.specs.Search.{Least, bitIn, overlapHere, unheldHere, overlapIn, bareIn, bareHere, Hangs, Sized}
+use Rattle.judge.proofs.BitLaws.{byte-in, no-bit}
 use Rattle.judge.proofs.Finding.{least-none}
-use Rattle.image.specs.Bits.{bit-and}
+use Rattle.image.specs.Bits.{bit-and, stored-more}
+use Rattle.image.specs.Scratch.{bitOf}
 use Rattle.image.specs.Rows.{packed}
 use Rattle.image.specs.Packed.{row-bit}
 use Rattle.judge.proofs.Planes.{row-in, cut, cut-length}
@@ -29,21 +30,9 @@ unfolding overlapIn
 overlap-byte part sup at c b j z e l =
     ap₂ (λ (u v : Bool). u && v) (byte-in sup at c j z l) (byte-in part at c j z l) ∙ rw (← e) (sym (bit-and (getD sup b 0) (getD part b 0) j))
 
-regroup : (a b e m : Bool) → m ≡ (a && not b) → (a && not b && e) ≡ (m && e)
-regroup true true e m h = rw h
-regroup true false e m h = rw h
-regroup false true e m h = rw h
-regroup false false e m h = rw h
-
-pub unheld-byte : (low up below above rings : List ℕ) (at x c b m j : ℕ) → c % 8 ≡ 0 → b ≡ at + c / 8 → j < 8 →
-    ((k : ℕ) → k < 8 → bitAt m k ≡ ((bitAt (getD up b 0) k || bitAt (getD above b 0) k) && not (bitAt (getD low b 0) k || bitAt (getD below b 0) k))) →
-    unheldIn low up below above rings at x (c + j) ≡ (bitAt m j && eqb (getD rings (x + c + j) 0) 0)
-unfolding unheldIn
-unheld-byte low up below above rings at x c b m j z eb l h =
-    let i : x + (c + j) ≡ x + c + j = omega arith in
-    let m' : bitAt m j ≡ ((bitIn up at (c + j) || bitIn above at (c + j)) && not (bitIn low at (c + j) || bitIn below at (c + j))) =
-    h j l ∙ rw (byte-in up at c j z l, byte-in above at c j z l, byte-in low at c j z l, byte-in below at c j z l, eb) in
-    rw i (regroup (bitIn up at (c + j) || bitIn above at (c + j)) (bitIn low at (c + j) || bitIn below at (c + j)) (eqb (getD rings (x + c + j) 0) 0) (bitAt m j) m')
+pub bare-byte : (m rings : List ℕ) (at x c b j : ℕ) → c % 8 ≡ 0 → b ≡ at + c / 8 → j < 8 → bareIn m rings at x (c + j) ≡ (bitAt (getD m b 0) j && eqb (getD rings (x + c + j) 0) 0)
+unfolding bareIn
+bare-byte m rings at x c b j z eb l = let i : x + (c + j) ≡ x + c + j = omega arith in rw (i, byte-in m at c j z l, eb)
 
 -- what is gathered by `or` is 0 only where each part is
 pub gather-more : (P : ℕ → Type 0) (j acc m : ℕ) → (acc ≡ 0 → (k : ℕ) → k < j → P k) → (m ≡ 0 → P j) → bitOr acc m ≡ 0 → (k : ℕ) → k < j + 1 → P k
@@ -67,24 +56,48 @@ apart-none part sup w h n e all =
     least-none 0 (h * w) _ (omega arith) (λ p a l.
     rw (row-bit sup (p / w * rowBytes w) (p % w), row-bit part (p / w * rowBytes w) (p % w)) (all (p / w * rowBytes w + p % w / 8) (byte-of w h n p e l) (p % w % 8) (omega arith)))
 
--- all bytes from `at` on are held
-abbrev pub Held : List ℕ → List ℕ → List ℕ → List ℕ → ℕ → ℕ → Type 0
-Held low up below above at n = (j : ℕ) → j < n → (k : ℕ) → k < 8 →
-    ((bitAt (getD up (at + j) 0) k || bitAt (getD above (at + j) 0) k) && not (bitAt (getD low (at + j) 0) k || bitAt (getD below (at + j) 0) k)) ≡ false
+-- the byte of a column lies in its row
+pub byte-room : (w c at b len : ℕ) → c < w → b ≡ at + c / 8 → at + rowBytes w ≤ len → b < len
+unfolding rowBytes
+byte-room w c at b len l e h = omega arith
 
-pub held-row : (low up below above rings : List ℕ) (at x w n : ℕ) → n ≡ rowBytes w → Held low up below above at n → Least 0 w (unheldIn low up below above rings at x) w
-unfolding unheldIn bitIn rowBytes
-held-row low up below above rings at x w n e all = least-none 0 w _ (omega arith) (λ y a l. rw (all (y / 8) (omega arith) (y % 8) (omega arith)))
+-- a row, and eight pixels, in which nothing hangs
+pub no-bare : (m rings : List ℕ) (at x w rb : ℕ) → rb ≡ rowBytes w → ((j : ℕ) → at * 8 ≤ j → j < (at + rb) * 8 → bitOf m j ≡ false) → Least 0 w (bareIn m rings at x) w
+unfolding bareIn bitIn rowBytes
+no-bare m rings at x w rb e all =
+    least-none 0 w _ (omega arith) (λ y a l.
+    let b : bitAt (getD m (at + y / 8) 0) (y % 8) ≡ false = sym (row-bit m at y) ∙ all (at * 8 + y) (omega arith) (omega arith) in
+    rw b)
 
-pub held-plane : (low up below above rings : List ℕ) (w h n : ℕ) → n ≡ h * rowBytes w → Held low up below above 0 n →
-    Least 0 (h * w) (unheldHere (packed w low) (packed w up) (packed w below) (packed w above) (λ p. getD rings p 0)) (h * w)
-unfolding unheldHere packed
-held-plane low up below above rings w h n e all =
-    least-none 0 (h * w) _ (omega arith) (λ p a l.
-    let j : ℕ = p / w * rowBytes w + p % w / 8 in
-    let z : 0 + j ≡ j = zero-add j in
-    let x : ℕ = p / w * rowBytes w in
-    rw (row-bit up x (p % w), row-bit above x (p % w), row-bit low x (p % w), row-bit below x (p % w), rw z at (all j (byte-of w h n p e l) (p % w % 8) (omega arith))))
+pub no-bare-eight : (m x : ℕ) (rings : List ℕ) → m ≡ 0 → Least 0 8 (λ k. bitAt m k && eqb (getD rings (x + k) 0) 0) 8
+no-bare-eight m x rings e = least-none 0 8 _ (omega arith) (λ k a l. rw (no-bit m k e))
+
+-- one more byte of what hangs is stored, and gathered
+pub gather-stored : (out : List ℕ) (j acc m : ℕ) → j < length out → (acc ≡ 0 → (k : ℕ) → k < j → getD out k 0 ≡ 0) → bitOr acc m ≡ 0 → (k : ℕ) → k < j + 1 → getD (set out j m) k 0 ≡ 0
+gather-stored out j acc m l all e =
+    let a : acc ≡ 0 = omega (arith, or-add-and acc m, and-le-r acc m) in
+    let b : m ≡ 0 = omega (arith, or-add-and acc m, and-le-l acc m) in
+    stored-more (λ k v. v ≡ 0) out j m l (all a) b
+
+-- the plane of what hangs
+module _ (low up below above m rings : List ℕ) (w h n : ℕ) (e : n ≡ h * rowBytes w) (hg : Hangs low up below above n m) where
+  bare-plane : (p : ℕ) → p < h * w → bareHere w m rings p ≡ unheldHere (packed w low) (packed w up) (packed w below) (packed w above) (λ o. getD rings o 0) p
+  unfolding bareHere unheldHere packed
+  bare-plane p l =
+      let x : ℕ = p / w * rowBytes w in
+      rw (row-bit m x (p % w), row-bit up x (p % w), row-bit above x (p % w), row-bit low x (p % w), row-bit below x (p % w), hg .is (p / w * rowBytes w + p % w / 8) (byte-of w h n p e l) (p % w % 8) (omega arith))
+
+  pub bare-unheld : (r : ℕ) → Least 0 (h * w) (bareHere w m rings) r → Least 0 (h * w) (unheldHere (packed w low) (packed w up) (packed w below) (packed w above) (λ o. getD rings o 0)) r
+  bare-unheld r s =
+      let b : r ≤ h * w = s .bound in
+      record { low = s .low; bound = b; before = λ y a l. sym (bare-plane y (omega arith)) ∙ s .before y a l; at = λ l. sym (bare-plane r l) ∙ s .at l }
+
+  no-bit-here : ((j : ℕ) → j < n → getD m j 0 ≡ 0) → (p : ℕ) → p < h * w → bareHere w m rings p ≡ false
+  unfolding bareHere packed
+  no-bit-here all p l = rw (row-bit m (p / w * rowBytes w) (p % w), no-bit (getD m (p / w * rowBytes w + p % w / 8) 0) (p % w % 8) (all (p / w * rowBytes w + p % w / 8) (byte-of w h n p e l)))
+
+  pub nothing-hangs : ((j : ℕ) → j < n → getD m j 0 ≡ 0) → Least 0 (h * w) (unheldHere (packed w low) (packed w up) (packed w below) (packed w above) (λ o. getD rings o 0)) (h * w)
+  nothing-hangs all = bare-unheld (h * w) (least-none 0 (h * w) _ (omega arith) (λ p a l. no-bit-here all p l))
 
 -- Row by row and plane by plane -------------------------------------------------------------------------------------------
 
@@ -150,18 +163,6 @@ module _ (w h n i at bytes x : ℕ) (eb : bytes ≡ h * rowBytes w) (ea : at ≡
 
 pub fit-of : (a b m n : ℕ) → a ≤ m → b ≤ n → a * b ≤ m * n
 fit-of a b m n l k = mul-le-mul l k
-
--- a byte over which nothing hangs
-pub unheld-skip : (low up below above rings : List ℕ) (at x w c b m : ℕ) → c % 8 ≡ 0 → b ≡ at + c / 8 →
-    ((k : ℕ) → k < 8 → bitAt m k ≡ ((bitAt (getD up b 0) k || bitAt (getD above b 0) k) && not (bitAt (getD low b 0) k || bitAt (getD below b 0) k))) → m ≡ 0 →
-    ((y : ℕ) → y < c → y < w → unheldIn low up below above rings at x y ≡ false) → (y : ℕ) → y < c + 8 → y < w → unheldIn low up below above rings at x y ≡ false
-unheld-skip low up below above rings at x w c b m z eb h e before y l lw =
-    split (ltb y c) (λ t. before y (ltb-true y c t) lw) (λ t.
-    let g : c ≤ y = ltb-false y c t in
-    let d : c + (y - c) ≡ y = omega arith in
-    let u : unheldIn low up below above rings at x (c + (y - c)) ≡ false =
-    unheld-byte low up below above rings at x c b m (y - c) z eb (omega arith) h ∙ rw (no-bit m (y - c) e) in
-    rw d at u)
 
 -- the lower plane of a pair is one of the stack
 pub pair-low : (n i : ℕ) → i < n - 1 → i < n

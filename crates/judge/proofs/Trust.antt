@@ -8,16 +8,17 @@ use Prim.Native.Nat.{ℕ, zero, suc, _-_, _*_, _/_, _%_, _<_, _≤_, _+_}
 use native.Mathlib.Nat.{mul-le-mul}
 use native.Mathlib.Omega.{arith}
 use lib.Dec.{leb, ltb, eqb}
-use borrow.Author.Tests.{lt-ltb, le-ltb, le-leb, lt-leb, leb-true, ltb-true}
+use borrow.Author.Tests.{lt-ltb, le-ltb, le-leb, lt-leb, leb-true, ltb-true, ltb-false, eq-eqb}
 use Rattle.rules.specs.Images.{Plane}
 use Rattle.rules.specs.Reach.{square, apart, distance², root}
 use Rattle.rules.specs.Planning.{shadow, near, seeds, reached, source, touch, touching, fits}
-use Rattle.laws.specs.Tests.{split, clash, and-l, and-r, and-in, not-in, some-in, some-out}
+use Rattle.laws.specs.Tests.{split, clash, and-l, and-r, and-in, not-out, some-in}
 use Rattle.laws.specs.Discs.{root-low, root-small}
-use Rattle.laws.specs.Growing.{seed-source, ring-source}
+use Rattle.laws.specs.Growing.{seed-source, source-ring, ring-source}
 use Rattle.image.specs.Scratch.{Sizes, seen, Drawn}
 use Rattle.image.specs.Planes.{scratch-seen}
 use Rattle.judge.specs.Search.{Least, badHere, badBy}
+use Rattle.judge.specs.Sound.{Beside, Sound}
 use Rattle.judge.proofs.Finding.{least-none}
 use Rattle.judge.proofs.Eight.{leans}
 
@@ -32,20 +33,29 @@ further : (a b c n : ℕ) → apart a b ≤ 1 → apart b c ≤ n → apart a c 
 unfolding apart
 further a b c n u v = omega arith
 
-module _ (w h q t : ℕ) (close low up : Plane) (ring : ℕ → ℕ) (all : (p : ℕ) → p < h * w → badBy w h t close low up ring p ≡ false) where
-  good : (p j : ℕ) → p < h * w → ring p ≡ suc j → (shadow low up p && (leb (ring p) t || close p) && leans w h low up ring p) ≡ true
-  unfolding badBy
-  good p j l e =
-      let G : Bool = shadow low up p && (leb (ring p) t || close p) && leans w h low up ring p in
-      split G (λ g. g) (λ g. clash (and-in (ltb 0 (ring p)) (not G) (lt-ltb 0 (ring p) (omega arith)) (not-in G g)) (all p l))
+module _ (w h q : ℕ) (close low up : Plane) (ring : ℕ → ℕ) (all : (p : ℕ) → p < h * w → Sound w h close low up ring p) where
+  -- a seed carries no ring, for it lies in no shadow
+  seed-bare : (o : ℕ) → o < h * w → seeds low up o ≡ true → ring o ≡ 0
+  unfolding seeds shadow
+  seed-bare o l e = split (ltb 0 (ring o))
+      (λ b. let (sh, _) = all o l .free (ltb-true 0 (ring o) b) in clash (and-l (low o) (up o) e) (not-out (low o) (and-r (up o) _ sh)))
+      (λ b. omega (arith, ltb-false 0 (ring o) b))
 
   leaning : (p j : ℕ) → p < h * w → ring p ≡ suc j → (o : ℕ) × (o < h * w) × (touch w p o ≡ true) × (source (seeds low up) ring j o ≡ true)
+  unfolding source
+  leaning p zero l e =
+      let b : Beside w h (seeds low up) p = all p l .first (omega arith) in
+      (b .other, b .inside, b .touches, and-in _ _ (eq-eqb (ring (b .other)) 0 (seed-bare (b .other) (b .inside) (b .is))) (b .is))
+  leaning p (suc j) l e =
+      let (o, lo, t, r) = all p l .leans (omega arith) in
+      (o, lo, t, source-ring (seeds low up) ring j o (omega arith))
+
+  leans-on : (p j : ℕ) → p < h * w → ring p ≡ suc j → leans w h low up ring p ≡ true
   unfolding touching
-  leaning p j l e =
+  leans-on p j l e =
+      let (o, lo, t, s) = leaning p j l e in
       let z : ring p - 1 ≡ j = omega arith in
-      let s : touching (h * w) (touch w) (source (seeds low up) ring j) p ≡ true = rw z at (and-r (shadow low up p && (leb (ring p) t || close p)) (leans w h low up ring p) (good p j l e)) in
-      let (o, lo, b) = some-out (h * w) (λ o. touch w p o && source (seeds low up) ring j o) s in
-      (o, lo, and-l (touch w p o) _ b, and-r (touch w p o) _ b)
+      rw z (some-in (h * w) (λ o. touch w p o && source (seeds low up) ring j o) o lo (and-in (touch w p o) _ t s))
 
   beside : (p o : ℕ) → touch w p o ≡ true → (apart (p / w) (o / w) ≤ 1) × (apart (p % w) (o % w) ≤ 1)
   unfolding touch
@@ -65,42 +75,35 @@ module _ (w h q t : ℕ) (close low up : Plane) (ring : ℕ → ℕ) (all : (p :
       let (r₁, c₁) = beside p x b in
       (o, lo, f, further (p / w) (x / w) (o / w) (suc j) r₁ r, further (p % w) (x % w) (o % w) (suc j) c₁ c)
 
-  near-itself : 2 * (t * t) ≤ q → (p j : ℕ) → p < h * w → ring p ≡ suc j → ring p ≤ t → near w h q low p ≡ true
+  near-itself : (t : ℕ) → 2 * (t * t) ≤ q → (p j : ℕ) → p < h * w → ring p ≡ suc j → ring p ≤ t → near w h q low p ≡ true
   unfolding near distance² square
-  near-itself lq p j l e b =
+  near-itself t lq p j l e b =
       let (o, lo, f, r, c) = seed-within j p l e in
       let r′ : apart (p / w) (o / w) ≤ t = omega arith in
       let c′ : apart (p % w) (o % w) ≤ t = omega arith in
       some-in (h * w) (λ o. low o && leb (distance² w p o) q) o lo (and-in (low o) _ f (le-leb _ q (omega (arith, mul-le-mul r′ r′, mul-le-mul c′ c′))))
 
-  -- so nothing is bad, if `close` has only near pixels
-  pub trusted : 2 * (t * t) ≤ q → ((p : ℕ) → p < h * w → close p ≡ true → near w h q low p ≡ true) → (p : ℕ) → p < h * w → badHere w h q low up ring p ≡ false
+  -- so nothing is bad, where all rings are near
+  near-good : ((p j : ℕ) → p < h * w → ring p ≡ suc j → near w h q low p ≡ true) → (p : ℕ) → p < h * w → badHere w h q low up ring p ≡ false
   unfolding badHere fits reached
-  trusted lq right p l = go (ring p) refl
+  near-good right p l = go (ring p) refl
     where
       go : (r : ℕ) → ring p ≡ r → badHere w h q low up ring p ≡ false
       go zero e = rw (le-ltb 0 (ring p) (omega arith))
-      go (suc j) e =
-          let g : (shadow low up p && (leb (ring p) t || close p) && leans w h low up ring p) ≡ true = good p j l e in
-          let m : (shadow low up p && (leb (ring p) t || close p)) ≡ true = and-l _ (leans w h low up ring p) g in
-          let n : near w h q low p ≡ true =
-          split (leb (ring p) t) (λ b. near-itself lq p j l e (leb-true (ring p) t b)) (λ b. right p l (rw b at (and-r (shadow low up p) _ m))) in
-          rw (lt-ltb 0 (ring p) (omega arith), and-l (shadow low up p) _ m, n, and-r (shadow low up p && (leb (ring p) t || close p)) _ g)
+      go (suc j) e = rw (lt-ltb 0 (ring p) (omega arith), all p l .free (omega arith) .0, right p j l e, leans-on p j l e)
+
+  pub sound-small : (t : ℕ) → 2 * (t * t) ≤ q → ((p : ℕ) → p < h * w → ring p ≤ t) → (p : ℕ) → p < h * w → badHere w h q low up ring p ≡ false
+  sound-small t lq small = near-good (λ p j l e. near-itself t lq p j l e (small p l))
+
+  pub sound-near : ((p : ℕ) → p < h * w → close p ≡ near w h q low p) → (p : ℕ) → p < h * w → badHere w h q low up ring p ≡ false
+  sound-near is = near-good (λ p j l e. sym (is p l) ∙ all p l .free (omega arith) .1)
 
 -- a plane without rings has no bad one
-pub quiet-plane : (w h q : ℕ) (low up : Plane) (rings : List ℕ) → ((j : ℕ) → j < h * w → getD rings (0 + j) 0 ≡ 0) → Least 0 (h * w) (badHere w h q low up (λ o. getD rings o 0)) (h * w)
+pub no-rings : (w h q : ℕ) (low up : Plane) (ring : ℕ → ℕ) (p : ℕ) → ring p ≤ 0 → badHere w h q low up ring p ≡ false
 unfolding badHere
-quiet-plane w h q low up rings all =
-    least-none 0 (h * w) _ (omega arith) (λ y a l. let z : 0 + y ≡ y = omega arith in rw (le-ltb 0 (getD rings y 0) (omega (arith, rw z at (all y l)))))
+no-rings w h q low up ring p l = rw (le-ltb 0 (ring p) l)
 
 module _ (w h q t st : ℕ) (low up : Plane) (ring : ℕ → ℕ) (scratch : List ℕ) (z : Sizes w h st) (r : ℕ) (s : Least 0 (h * w) (badBy w h t (seen w st scratch) low up ring) r) where
-  -- the search with an empty plane found nothing
-  pub trusted-none : 2 * (t * t) ≤ q → Drawn w h st (λ p. false) scratch → h * w ≤ r → Least 0 (h * w) (badHere w h q low up ring) (h * w)
-  trusted-none lq d b =
-      least-none 0 (h * w) _ (omega arith) (λ p a l.
-      trusted w h q t (seen w st scratch) low up ring (λ o lo. s .before o (omega arith) (omega arith)) lq
-      (λ o lo e. clash e (scratch-seen w h st z (λ p. false) scratch (d .is) o lo)) p l)
-
   -- the search with the near plane is the one for bad rings
   pub near-search : t ≡ 0 → Drawn w h st (near w h q low) scratch → Least 0 (h * w) (badHere w h q low up ring) r
   near-search e d = record {

@@ -1,5 +1,5 @@
 // How many pixels of a layer are filled, and how many of a pair are excused.
-use judge::bit;
+use judge::bits::bit;
 use limits::row_bytes;
 ghost use mathlib.Core.Path.{_≡_};
 ghost use Prim.Native.Nat.{ℕ, _+_, _-_, _*_, _<_, _≤_};

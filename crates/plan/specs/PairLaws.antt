@@ -19,7 +19,7 @@ use Rattle.laws.specs.Growing.{grown-same, grown-none}
 use Rattle.laws.specs.Tests.{bool-eq, clash, and-l, and-r, and-in, not-out, some-in, some-out}
 use Rattle.image.specs.Bits.{bit-and, bit-or, bit-not, zero-bit, byte-but-not}
 use Rattle.image.specs.Filling.{bit-here}
-use Rattle.image.specs.Loops.{Bits2, butNot, Within}
+use Rattle.image.specs.Loops.{Bits, Bits2, butNot}
 use Rattle.image.specs.Planes.{row-fits, scratch-op, scratch-seen}
 use Rattle.image.specs.Rows.{packed, Clean, Packs}
 use Rattle.image.specs.Scratch.{bitOf, Sizes, Scratch, seen}
@@ -69,12 +69,12 @@ unfolding bitOf
 none-hangs low up n t all e j lj = all (eqb-true t 0 (not-false (eqb t 0) e)) (j / 8) (omega arith) (j % 8) (omega arith)
 
 -- one byte of the support
-pub support-byte : (rest low out was : List ℕ) (i : ℕ) → getD low i 0 < 256 → getD out i 0 ≡ getD was i 0 → (m : ℕ) → m < 8
-    → bitAt (bitAnd (bitOr (getD rest i 0) (getD out i 0)) (255 - getD low i 0)) m ≡ (bitOf rest (i * 8 + m) || bitOf was (i * 8 + m)) && not (bitOf low (i * 8 + m))
-support-byte rest low out was i y e m l =
-    bit-and (bitOr (getD rest i 0) (getD out i 0)) (255 - getD low i 0) m
+pub support-byte : (rest low above : List ℕ) (i : ℕ) → getD low i 0 < 256 → (m : ℕ) → m < 8
+    → bitAt (bitAnd (bitOr (getD rest i 0) (getD above i 0)) (255 - getD low i 0)) m ≡ (bitOf rest (i * 8 + m) || bitOf above (i * 8 + m)) && not (bitOf low (i * 8 + m))
+support-byte rest low above i y m l =
+    bit-and (bitOr (getD rest i 0) (getD above i 0)) (255 - getD low i 0) m
     ∙ ap₂ _&&_
-    (bit-or (getD rest i 0) (getD out i 0) m ∙ ap₂ _||_ (sym (bit-here rest i m l)) (ap (λ (n : ℕ). bitAt n m) e ∙ sym (bit-here was i m l)))
+    (bit-or (getD rest i 0) (getD above i 0) m ∙ ap₂ _||_ (sym (bit-here rest i m l)) (sym (bit-here above i m l)))
     (bit-not (getD low i 0) m y l ∙ ap not (sym (bit-here low i m l)))
 
 -- the bytes of a packed plane, as the code counts them
@@ -119,18 +119,18 @@ module _ (w h : ℕ) (lw : 0 < w) where
       let lc : p % w < w = mod-lt p lw in
       omega (arith, row-fits (p / w) h ((w + 7) / 8) lr)
 
-  pub support-packs : (f : Plane) (rest low above out : List ℕ) → Packs w h f rest → Clean w h above → length out ≡ length above
-      → Within 0 (length above) (λ j. (bitOf rest j || bitOf above j) && not (bitOf low j)) out above → Packs w h (λ p. (f p || packed w above p) && not (packed w low p)) out
+  pub support-packs : (f : Plane) (rest low above out : List ℕ) (n : ℕ) → Packs w h f rest → Clean w h above → length out ≡ h * rowBytes w → n ≡ h * rowBytes w
+      → Bits n (λ j. (bitOf rest j || bitOf above j) && not (bitOf low j)) out → Packs w h (λ p. (f p || packed w above p) && not (packed w low p)) out
   unfolding packed
-  support-packs f rest low above out R C e wi = record {
+  support-packs f rest low above out n R C e en b = record {
     clean = record {
-      long = e ∙ C .long;
+      long = e;
       clear = λ r c lr wc lc.
-          wi .inner (r * rowBytes w * 8 + c) (omega arith) (omega (arith, C .long, row-fits r h (rowBytes w) lr))
+          b (r * rowBytes w * 8 + c) (omega (arith, en, row-fits r h (rowBytes w) lr))
           ∙ ap₂ (λ (a b : Bool). (a || b) && not (bitOf low (r * rowBytes w * 8 + c))) (R .clean .clear r c lr wc lc) (C .clear r c lr wc lc);
     };
     pixels = λ p lp.
-        wi .inner (p / w * rowBytes w * 8 + p % w) (omega arith) (omega (arith, C .long, place-in p lp))
+        b (p / w * rowBytes w * 8 + p % w) (omega (arith, en, place-in p lp))
         ∙ ap (λ (a : Bool). (a || bitOf above (p / w * rowBytes w * 8 + p % w)) && not (bitOf low (p / w * rowBytes w * 8 + p % w))) (R .pixels p lp);
   }
 
@@ -153,10 +153,10 @@ module _ (w h : ℕ) (lw : 0 < w) where
   packs-same f g s e P = record { clean = P .clean; pixels = λ p lp. P .pixels p lp ∙ e p lp }
 
 -- the support of a layer, from its unexcused pixels
-pub layer-packs : (w h q : ℕ) → 0 < w → (rest low up above out : List ℕ) → Packs w h (unexcused w h q (packed w low) (packed w up)) rest → Clean w h above → length out ≡ length above
-    → Within 0 (length above) (λ j. (bitOf rest j || bitOf above j) && not (bitOf low j)) out above → Packs w h (pairSupport w h q (packed w low) (packed w up) (packed w above)) out
+pub layer-packs : (w h q : ℕ) → 0 < w → (rest low up above out : List ℕ) (n : ℕ) → Packs w h (unexcused w h q (packed w low) (packed w up)) rest → Clean w h above → length out ≡ h * rowBytes w
+    → n ≡ h * rowBytes w → Bits n (λ j. (bitOf rest j || bitOf above j) && not (bitOf low j)) out → Packs w h (pairSupport w h q (packed w low) (packed w up) (packed w above)) out
 unfolding pairSupport
-layer-packs w h q lw rest low up above out = support-packs w h lw (unexcused w h q (packed w low) (packed w up)) rest low above out
+layer-packs w h q lw rest low up above out n = support-packs w h lw (unexcused w h q (packed w low) (packed w up)) rest low above out n
 
 -- A pair without shadow -------------------------------------------------------------------------------------------------
 

@@ -4,7 +4,7 @@ ghost use mathlib.Core.Bool.{false, not, _&&_, _||_};
 ghost use Prim.Native.Nat.{ℕ, _*_, _<_, _≤_};
 ghost use lib.ListN.{length};
 ghost use Rattle.rules.specs.Images.{rowBytes};
-ghost use Rattle.image.specs.Loops.{Within, butNot};
+ghost use Rattle.image.specs.Loops.{Bits, butNot};
 ghost use Rattle.image.specs.Rows.{packed, Clean, Packs};
 ghost use Rattle.image.specs.Scratch.{bitOf, Sizes};
 ghost use Rattle.plan.specs.Pairs.{pairRings, unexcused, pairSupport};
@@ -23,14 +23,14 @@ fn shaded(low: &[u8], up: &[u8]) -> bool
     all != 0
 }
 
-// The support of a layer whose unexcused pixels are `rest`, in place of that of the layer above.
-fn support(rest: &[u8], low: &[u8], above: &mut [u8])
-    requires { ⌜ (length (now rest) ≡ length (now above)) × (length (now low) ≡ length (now above)) ⌝ }
-    ensures { λ _. ⌜ Within 0 (length (now (above .entry))) (λ j. (bitOf (now (rest .entry)) j || bitOf (now (above .entry)) j) && not (bitOf (now (low .entry)) j)) (now (above .exit)) (now (above .entry)) ⌝ }
+// The support of a layer into `out`, by its unexcused pixels and the support of the layer above.
+fn support(rest: &[u8], low: &[u8], above: &[u8], out: &mut [u8])
+    requires { ⌜ (length (now rest) ≡ length (now out)) × (length (now low) ≡ length (now out)) × (length (now above) ≡ length (now out)) ⌝ }
+    ensures { λ _. ⌜ Bits (length (now (out .entry))) (λ j. (bitOf (now (rest .entry)) j || bitOf (now (above .entry)) j) && not (bitOf (now (low .entry)) j)) (now (out .exit)) ⌝ }
 {
     let mut i = 0;
-    while i < above.len() {
-        above[i] = (rest[i] | above[i]) & !low[i];
+    while i < out.len() {
+        out[i] = (rest[i] | above[i]) & !low[i];
         i += 1;
     }
 }
@@ -90,11 +90,12 @@ fn rings(
     }
 }
 
-// The rings of a pair, and the support of its lower layer in place of that of its upper layer.
+// The rings of a pair, and the support of its lower layer; above is that of its upper layer.
 pub fn layer(
     low: &[u8],
     up: &[u8],
-    above: &mut [u8],
+    above: &[u8],
+    out: &mut [u8],
     ring: &mut [u16],
     w: usize,
     h: usize,
@@ -102,12 +103,12 @@ pub fn layer(
     q: usize,
 )
     requires { ⌜ Sizes w h st × (q ≤ 1024) ⌝ }
-    requires { ⌜ Clean w h (now low) × Clean w h (now up) × Clean w h (now above) × (length (now ring) ≡ h * w) ⌝ }
+    requires { ⌜ Clean w h (now low) × Clean w h (now up) × Clean w h (now above) × (length (now out) ≡ h * rowBytes w) × (length (now ring) ≡ h * w) ⌝ }
     ensures { λ _. ⌜ now (ring .exit) ≡ pairRings w h q (packed w (now (low .entry))) (packed w (now (up .entry))) ⌝ }
-    ensures { λ _. ⌜ Packs w h (pairSupport w h q (packed w (now (low .entry))) (packed w (now (up .entry))) (packed w (now (above .entry)))) (now (above .exit)) ⌝ }
+    ensures { λ _. ⌜ Packs w h (pairSupport w h q (packed w (now (low .entry))) (packed w (now (up .entry))) (packed w (now (above .entry)))) (now (out .exit)) ⌝ }
 {
     let size = h * (st - 1);
     let mut rest = [0u8; 8192];
     rings(low, up, &mut rest[..size], ring, w, h, st, q);
-    support(&rest[..size], low, above);
+    support(&rest[..size], low, above, out);
 }

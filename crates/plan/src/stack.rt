@@ -48,13 +48,14 @@ fn layer_at(
         &part[a..m],
         &part[m..m + size],
         above,
+        &mut support[a..m],
         &mut rings[x..x + area],
         w,
         h,
         st,
         q,
     );
-    put(above, &mut support[a..m]);
+    put(&support[a..m], above);
 }
 
 // All layers below the top one, downward.

@@ -54,16 +54,7 @@ slice-aggregate-but-not : tie.Need-slice-aggregate-but-not
 slice-aggregate-but-not c = search needs
 
 but-not-requires : tie.Need-but-not-requires
-but-not-requires c κs = let A = c .before .before .before .before .before .before .before .before .before .before .before .before .before .before .before .before .before .before .before .before .before .before .before .before .before .args in let P = c .before .before .before .before .before .before .before .before .before .before .before .before .before .before .before .before .before .before .before .before .before .before .before .before .before .pre in let U = c .before .before .before .before .before .before .waves in omega (arith, size-max (A .w) (A .h) (A .st) (P .0), P .1 .0 .1 .long, P .1 .0 .3 .long, U .ensures .0 .2 .left-ready .long)
-
-slice-aggregate-goes-on : tie.Need-slice-aggregate-goes-on
-slice-aggregate-goes-on c = search needs
-
-slice-aggregate-goes-on-2 : tie.Need-slice-aggregate-goes-on-2
-slice-aggregate-goes-on-2 c = search needs
-
-goes-on-requires : tie.Need-goes-on-requires
-goes-on-requires c κs = let A = c .before .before .before .before .before .before .before .before .before .before .before .before .before .before .before .before .before .before .before .before .before .before .before .before .before .before .before .before .before .before .args in let P = c .before .before .before .before .before .before .before .before .before .before .before .before .before .before .before .before .before .before .before .before .before .before .before .before .before .before .before .before .before .before .pre in let U = c .before .before .before .before .before .before .before .before .before .before .before .waves in omega (arith, size-max (A .w) (A .h) (A .st) (P .0), U .ensures .0 .2 .front-ready .long, U .ensures .0 .2 .left-ready .long)
+but-not-requires c κs = let A = c .before .before .before .before .before .before .before .before .before .before .before .before .before .before .before .before .before .before .before .before .before .before .before .before .before .args in let P = c .before .before .before .before .before .before .before .before .before .before .before .before .before .before .before .before .before .before .before .before .before .before .before .before .before .pre in let U = c .before .before .before .before .before .before .waves in omega (arith, size-max (A .w) (A .h) (A .st) (P .0), P .1 .0 .1 .long, P .1 .0 .3 .long, U .ensures .0 .left-ready .long)
 
 same-length : tie.Need-same-length
 same-length c = search needs
@@ -73,24 +64,25 @@ same-length-2 c = search needs
 
 returns : tie.Need-returns
 returns c =
-    let A = c .before .before .before .before .before .before .before .before .before .before .before .before .before .before .before .before .before .before .before .before .before .before .before .before .before .before .before .before .before .before .before .before .args in
-    let P = c .before .before .before .before .before .before .before .before .before .before .before .before .before .before .before .before .before .before .before .before .before .before .before .before .before .before .before .before .before .before .before .before .pre in
+    let A = c .before .before .before .before .before .before .before .before .before .before .before .before .before .before .before .before .before .before .before .before .before .before .before .before .before .before .before .before .before .args in
+    let P = c .before .before .before .before .before .before .before .before .before .before .before .before .before .before .before .before .before .before .before .before .before .before .before .before .before .before .before .before .before .pre in
     let Q = P .1 .0 in
-    let Z = c .before .before .before .before .before .before .before .before .before .before .before .before .before .before .before .before .before .before .before .before .before .before .before .before .before .zero in
-    let S = c .before .before .before .before .before .before .before .before .before .before .before .before .before .before .before .before .before .before .before .before .before .copy in
-    let T = c .before .before .before .before .before .before .before .before .before .before .before .before .before .before .before .before .before .before .copy2 in
-    let U = c .before .before .before .before .before .before .before .before .before .before .before .before .before .waves in
-    let B = c .before .before .before .before .before .before .but-not in
+    let Z = c .before .before .before .before .before .before .before .before .before .before .before .before .before .before .before .before .before .before .before .before .before .before .zero in
+    let S = c .before .before .before .before .before .before .before .before .before .before .before .before .before .before .before .before .before .before .copy in
+    let T = c .before .before .before .before .before .before .before .before .before .before .before .before .before .before .before .copy2 in
+    let U = c .before .before .before .before .before .before .before .before .before .before .waves in
+    let K = U .ensures .1 .0 in
+    let B = c .before .before .before .but-not in
     let ring = U .last .0 in
     let front = U .last .1 .0 in
     let left = U .last .1 .1 .0 in
     let got = B .last .1 .1 .0 in
     let low = seen (A .w) (A .st) (A .lower .now) in
-    let W = U .ensures .1 (seen (A .w) (A .st) (A .plane .now)) (seen (A .w) (A .st) (A .seed .now))
+    let W = K .waved (seen (A .w) (A .st) (A .plane .now)) (seen (A .w) (A .st) (A .seed .now))
     (waved-start (A .w) (A .h) (A .st) (P .0) (Z .last .0) (S .last .1 .0) (T .last .1 .0) _ _ (A .plane .now) (A .seed .now) (Z .kept .0 ∙ Q .4) (λ p lp. Z .ensures p (omega (arith, Q .4))) (S .ensures) (T .ensures)) in
-    let D = landed (A .w) (A .h) (A .st) (A .q) (U .result) (A .t) (P .0) low (A .plane .now) (A .seed .now) ring front left got (U .ensures .0 .2) W (U .ensures .0 .0) (U .ensures .0 .1) (P .1 .1 .1 .0) (P .1 .1 .1 .1) (Q .1 .framed) (B .ensures) in (
-      closed (A .w) (A .h) (A .st) (A .q) (U .result) low (seen (A .w) (A .st) (A .plane .now)) (seen (A .w) (A .st) (A .seed .now)) ring front left got (U .ensures .0 .2) D
-          (apart-planes (A .w) (A .h) (A .st) (P .0) front left (c .before .goes-on .ensures (not-out _ (c .if1 .taken)))),
+    let D = landed (A .w) (A .h) (A .st) (A .q) (K .number) (A .t) (P .0) low (A .plane .now) (A .seed .now) ring front left got (U .ensures .0) W (K .some-wave) (K .most) (P .1 .1 .1 .0) (P .1 .1 .1 .1) (Q .1 .framed) (B .ensures) in (
+      closed (A .w) (A .h) (A .st) (A .q) (K .number) low (seen (A .w) (A .st) (A .plane .now)) (seen (A .w) (A .st) (A .seed .now)) ring front left got (U .ensures .0) D
+          (apart-planes (A .w) (A .h) (A .st) (P .0) front left (U .ensures .1 .1 (not-out _ (c .if1 .taken)))),
       record { long = omega (arith, Q .3 .long, B .kept .1 .1 .0); is = D .gots },
     )
 
@@ -101,34 +93,35 @@ slice-aggregate-onward-2 : tie.Need-slice-aggregate-onward-2
 slice-aggregate-onward-2 c = search needs
 
 onward-requires : tie.Need-onward-requires
-onward-requires c κs = let P = c .before .before .before .before .before .before .before .before .before .before .before .before .before .before .before .before .before .before .before .before .before .before .before .before .before .before .before .before .before .before .before .before .before .before .before .before .pre in let B = c .before .before .before .before .before .before .before .before .before .before .but-not in (c .before .before .before .before .before .before .before .before .before .before .before .before .before .before .before .before .before .waves .ensures .0 .2, (P .1 .0 .0, omega (arith, P .1 .0 .3 .long, B .kept .1 .1 .0), P .1 .1 .0 .0))
+onward-requires c κs = let P = c .before .before .before .before .before .before .before .before .before .before .before .before .before .before .before .before .before .before .before .before .before .before .before .before .before .before .before .before .before .before .before .before .before .pre in let B = c .before .before .before .before .before .before .before .but-not in (c .before .before .before .before .before .before .before .before .before .before .before .before .before .before .waves .ensures .0, (P .1 .0 .0, omega (arith, P .1 .0 .3 .long, B .kept .1 .1 .0), P .1 .1 .0 .0))
 
 same-length-3 : tie.Need-same-length-3
-same-length-3 c = c .before .before .before .before .onward .kept .1 .1 .1 .0 ∙ c .before .before .before .before .before .before .before .before .before .before .before .before .before .before .before .before .before .before .before .before .before .before .waves .kept .0 ∙ c .before .before .before .before .before .before .before .before .before .before .before .before .before .before .before .before .before .before .before .before .before .before .before .before .before .before .before .before .before .before .before .before .before .before .zero .kept .0
+same-length-3 c = c .before .before .before .before .onward .kept .1 .1 .1 .0 ∙ c .before .before .before .before .before .before .before .before .before .before .before .before .before .before .before .before .before .before .before .waves .kept .0 ∙ c .before .before .before .before .before .before .before .before .before .before .before .before .before .before .before .before .before .before .before .before .before .before .before .before .before .before .before .before .before .before .before .zero .kept .0
 
 same-length-4 : tie.Need-same-length-4
 same-length-4 c = search needs
 
 returns-2 : tie.Need-returns-2
 returns-2 c =
-    let A = c .before .before .before .before .before .before .before .before .before .before .before .before .before .before .before .before .before .before .before .before .before .before .before .before .before .before .before .before .before .before .before .before .before .before .before .before .before .before .before .before .before .args in
-    let P = c .before .before .before .before .before .before .before .before .before .before .before .before .before .before .before .before .before .before .before .before .before .before .before .before .before .before .before .before .before .before .before .before .before .before .before .before .before .before .before .before .before .pre in
+    let A = c .before .before .before .before .before .before .before .before .before .before .before .before .before .before .before .before .before .before .before .before .before .before .before .before .before .before .before .before .before .before .before .before .before .before .before .before .before .before .args in
+    let P = c .before .before .before .before .before .before .before .before .before .before .before .before .before .before .before .before .before .before .before .before .before .before .before .before .before .before .before .before .before .before .before .before .before .before .before .before .before .before .pre in
     let Q = P .1 .0 in
-    let Z = c .before .before .before .before .before .before .before .before .before .before .before .before .before .before .before .before .before .before .before .before .before .before .before .before .before .before .before .before .before .before .before .before .before .before .zero in
-    let S = c .before .before .before .before .before .before .before .before .before .before .before .before .before .before .before .before .before .before .before .before .before .before .before .before .before .before .before .before .before .before .copy in
-    let T = c .before .before .before .before .before .before .before .before .before .before .before .before .before .before .before .before .before .before .before .before .before .before .before .before .before .before .before .copy2 in
-    let U = c .before .before .before .before .before .before .before .before .before .before .before .before .before .before .before .before .before .before .before .before .before .before .waves in
-    let B = c .before .before .before .before .before .before .before .before .before .before .before .before .before .before .before .but-not in
+    let Z = c .before .before .before .before .before .before .before .before .before .before .before .before .before .before .before .before .before .before .before .before .before .before .before .before .before .before .before .before .before .before .before .zero in
+    let S = c .before .before .before .before .before .before .before .before .before .before .before .before .before .before .before .before .before .before .before .before .before .before .before .before .before .before .before .copy in
+    let T = c .before .before .before .before .before .before .before .before .before .before .before .before .before .before .before .before .before .before .before .before .before .before .before .before .copy2 in
+    let U = c .before .before .before .before .before .before .before .before .before .before .before .before .before .before .before .before .before .before .before .waves in
+    let K = U .ensures .1 .0 in
+    let B = c .before .before .before .before .before .before .before .before .before .before .before .before .but-not in
     let ring = U .last .0 in
     let front = U .last .1 .0 in
     let left = U .last .1 .1 .0 in
     let got = B .last .1 .1 .0 in
     let low = seen (A .w) (A .st) (A .lower .now) in
-    let W = U .ensures .1 (seen (A .w) (A .st) (A .plane .now)) (seen (A .w) (A .st) (A .seed .now))
+    let W = K .waved (seen (A .w) (A .st) (A .plane .now)) (seen (A .w) (A .st) (A .seed .now))
     (waved-start (A .w) (A .h) (A .st) (P .0) (Z .last .0) (S .last .1 .0) (T .last .1 .0) _ _ (A .plane .now) (A .seed .now) (Z .kept .0 ∙ Q .4) (λ p lp. Z .ensures p (omega (arith, Q .4))) (S .ensures) (T .ensures)) in
-    let D = landed (A .w) (A .h) (A .st) (A .q) (U .result) (A .t) (P .0) low (A .plane .now) (A .seed .now) ring front left got (U .ensures .0 .2) W (U .ensures .0 .0) (U .ensures .0 .1) (P .1 .1 .1 .0) (P .1 .1 .1 .1) (Q .1 .framed) (B .ensures) in
+    let D = landed (A .w) (A .h) (A .st) (A .q) (K .number) (A .t) (P .0) low (A .plane .now) (A .seed .now) ring front left got (U .ensures .0) W (K .some-wave) (K .most) (P .1 .1 .1 .0) (P .1 .1 .1 .1) (Q .1 .framed) (B .ensures) in
     let N = c .before .before .before .before .onward in
-    let E = N .ensures (U .result) (seen (A .w) (A .st) (A .plane .now)) (seen (A .w) (A .st) (A .seed .now)) D in
+    let E = N .ensures (K .number) (seen (A .w) (A .st) (A .plane .now)) (seen (A .w) (A .st) (A .seed .now)) D in
     (E .0, record { long = omega (arith, Q .3 .long, B .kept .1 .1 .0, N .kept .1 .1 .1 .1 .0); is = E .1 })
 
 pub over-spec : {M : Type 1} → statement M
@@ -147,9 +140,6 @@ over-spec =
     waves-requires
     slice-aggregate-but-not
     but-not-requires
-    slice-aggregate-goes-on
-    slice-aggregate-goes-on-2
-    goes-on-requires
     same-length
     same-length-2
     returns

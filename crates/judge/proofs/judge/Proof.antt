@@ -5,7 +5,7 @@ use Rattle.judge.proofs.judge.Statement.{statement}
 use Rattle.judge.proofs.judge.Tie as tie
 use Rattle.judge.proofs.judge.Reads as reads
 use Rattle.judge.proofs.judge.Lts as lts
-use Rattle.judge.proofs.refused.Reads as refused-reads
+use Rattle.judge.proofs.refusals.refused.Reads as refused-reads
 use Rattle.judge.proofs.verdict.Reads as verdict-reads
 
 refused-requires : tie.Need-refused-requires

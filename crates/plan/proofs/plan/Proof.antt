@@ -22,14 +22,14 @@ returns c = let A = c .before .before .before .before .before .args in refuses (
 
 -- src/lib.rt:45:9
 reach-of-requires : tie.Need-reach-of-requires
-reach-of-requires c κs = 
+reach-of-requires c κs =
     let A = c .before .before .before .before .before .before .before .args in
     let Q = planable (A .s) (A .part .now) (length (A .support .now)) (length (A .rings .now)) (sym (c .before .before .before .refused .ensures) ∙ c .before .before .if1 .left) in
     omega (arith, Q .range .pitch-low)
 
 -- src/lib.rt:46:14
 row-bytes-requires : tie.Need-row-bytes-requires
-row-bytes-requires c κs = 
+row-bytes-requires c κs =
     let A = c .before .before .before .before .before .before .before .before .args in
     let Q = planable (A .s) (A .part .now) (length (A .support .now)) (length (A .rings .now)) (sym (c .before .before .before .before .refused .ensures) ∙ c .before .before .before .if1 .left) in
     omega (arith, Q .range .w-low, Q .range .w-high)
@@ -40,14 +40,14 @@ add-st c = search needs
 
 -- src/lib.rt:47:66
 mul-stack : tie.Need-mul-stack
-mul-stack c = 
+mul-stack c =
     let A = c .before .before .before .before .before .before .before .before .before .before .before .before .args in
     let Q = planable (A .s) (A .part .now) (length (A .support .now)) (length (A .rings .now)) (sym (c .before .before .before .before .before .before .before .before .refused .ensures) ∙ c .before .before .before .before .before .before .before .if1 .left) in
     omega (arith, bound-fits (A .s) (c .before .before .before .before .reach-of .result) (Q .range) (c .before .before .before .before .reach-of .ensures))
 
 -- src/lib.rt:47:5
 stack-requires : tie.Need-stack-requires
-stack-requires c κs = 
+stack-requires c κs =
     let A = c .before .before .before .before .before .before .before .before .before .before .before .before .args in
     let Q = planable (A .s) (A .part .now) (length (A .support .now)) (length (A .rings .now)) (sym (c .before .before .before .before .before .before .before .before .refused .ensures) ∙ c .before .before .before .before .before .before .before .if1 .left) in
     let R = Q .range in (
@@ -69,7 +69,7 @@ same-length-2 c = search needs
 
 -- src/lib.rt:34:1
 returns-2 : tie.Need-returns-2
-returns-2 c = 
+returns-2 c =
     let A = c .before .before .before .before .before .before .before .before .before .before .before .before .before .before .before .before .before .args in
     let W = c .before .before .before .before .stack in
     plans (A .s) (A .part .now) (A .support .now) (A .rings .now) _ (c .before .before .before .before .before .before .before .before .before .before .before .before .before .refused .ensures) (c .before .before .before .before .before .before .before .before .before .before .before .before .if1 .left) (c .before .before .before .before .before .before .before .before .before .reach-of .result) (c .before .before .before .before .before .before .before .before .before .reach-of .ensures) (W .last .1 .0) (W .last .1 .1 .0) (W .ensures .0) (W .ensures .1)

@@ -1,10 +1,11 @@
 use mathlib.Core.Path.{_≡_, refl, subst, _∙_}
 use Prim.Native.Nat.{ℕ, _≤_, _-_, _+_, _*_}
+use native.Mathlib.Nat.{mul-le-mul-right}
 use native.Mathlib.Omega.{arith}
 use borrow.Author.Needs.{needs}
 use lib.ListN.{length}
-use Rattle.image.specs.Planes.{size-max, row-fits}
-use Rattle.grow.specs.StartLaws.{Filled, rowOnes, allOnes, filled-none, filled-more, filled-skip, zero-row}
+use Rattle.image.specs.Planes.{size-max}
+use Rattle.grow.specs.StartLaws.{Filled, rowOnes, allOnes, filled-none, filled-same, rows-skip-to}
 use Rattle.grow.proofs.start.fill.Statement.{statement}
 use Rattle.grow.proofs.start.fill.Tie as tie
 
@@ -19,51 +20,45 @@ loop-holds : tie.Need-loop-holds Inv-loop μ-loop
 unfolding allOnes
 loop-holds c = let A = c .before .before .args in (omega arith, refl, filled-none (A .v) (λ r x. rowOnes (A .l .now) ((r + 1) * A .st) (r * A .w) (A .st) x) (A .ring .now))
 
-add-r : tie.Need-add-r Inv-loop μ-loop
-add-r c = search needs
+eight-on-requires : tie.Need-eight-on-requires Inv-loop μ-loop
+eight-on-requires c κs = (c .loop-test .taken, c .before .before .before .before .pre .0 .h-max)
 
 add-any : tie.Need-add-any Inv-loop μ-loop
 add-any c = search needs
 
 mul-any : tie.Need-mul-any Inv-loop μ-loop
-mul-any c = let A = c .before .before .before .before .args in let P = c .before .before .before .before .pre in let L = c .before .loop in let lt = c .loop-test .taken in let SM = size-max (A .w) (A .h) (A .st) (P .0) in let RG = row-fits (L .r + 1) (A .h + 1) (A .st) (omega (arith, lt)) in omega (arith, SM, RG)
+mul-any c = let A = c .before .before .before .before .before .args in let P = c .before .before .before .before .before .pre in let L = c .before .before .loop in let m : L .r + 1 ≤ A .h + 1 = omega (arith, c .before .loop-test .taken) in omega (arith, size-max (A .w) (A .h) (A .st) (P .0), mul-le-mul-right (A .st) m)
 
 add-any-2 : tie.Need-add-any-2 Inv-loop μ-loop
 add-any-2 c = search needs
 
 mul-any-2 : tie.Need-mul-any-2 Inv-loop μ-loop
-mul-any-2 c = let A = c .before .before .before .before .args in let P = c .before .before .before .before .pre in let L = c .before .loop in let lt = c .loop-test .taken in let SM = size-max (A .w) (A .h) (A .st) (P .0) in let RG = row-fits (L .r + 1) (A .h + 1) (A .st) (omega (arith, lt)) in omega (arith, SM, RG)
-
-add-any-3 : tie.Need-add-any-3 Inv-loop μ-loop
-add-any-3 c = let A = c .before .before .before .before .args in let P = c .before .before .before .before .pre in let L = c .before .loop in let lt = c .loop-test .taken in let SM = size-max (A .w) (A .h) (A .st) (P .0) in let RG = row-fits (L .r + 1) (A .h + 1) (A .st) (omega (arith, lt)) in omega (arith, SM, RG)
+mul-any-2 c = let A = c .before .before .before .before .before .args in let P = c .before .before .before .before .before .pre in let L = c .before .before .loop in let e = c .eight-on in let m : e .result + 1 ≤ A .h + 1 = omega (arith, e .ensures) in omega (arith, size-max (A .w) (A .h) (A .st) (P .0), mul-le-mul-right (A .st) m)
 
 any-requires : tie.Need-any-requires Inv-loop μ-loop
-any-requires c κs = let A = c .before .before .before .before .args in let P = c .before .before .before .before .pre in let L = c .before .loop in let lt = c .loop-test .taken in let SM = size-max (A .w) (A .h) (A .st) (P .0) in let RG = row-fits (L .r + 1) (A .h + 1) (A .st) (omega (arith, lt)) in omega (arith, SM, RG, P .1 .1)
+any-requires c κs = let A = c .before .before .before .before .before .args in let P = c .before .before .before .before .before .pre in let L = c .before .before .loop in let e = c .eight-on in
+    let m : e .result + 1 ≤ A .h + 1 = omega (arith, e .ensures) in
+    let k : L .r + 1 ≤ e .result + 1 = omega (arith, e .ensures) in
+    omega (arith, size-max (A .w) (A .h) (A .st) (P .0), mul-le-mul-right (A .st) m, mul-le-mul-right (A .st) k, P .1 .1 .0)
 
-fill-row-requires : tie.Need-fill-row-requires Inv-loop μ-loop
-fill-row-requires c κs = let A = c .before .before .before .before .before .before .before .args in let P = c .before .before .before .before .before .before .before .pre in let L = c .before .before .before .before .loop in let lt = c .before .before .before .loop-test .taken in let SM = size-max (A .w) (A .h) (A .st) (P .0) in let RG = row-fits (L .r + 1) (A .h + 1) (A .st) (omega (arith, lt)) in (P .0, (P .1 .0, (lt, P .1 .1 .0, L .inv .1 ∙ P .1 .1 .1)))
+fill-rows-requires : tie.Need-fill-rows-requires Inv-loop μ-loop
+fill-rows-requires c κs = let A = c .before .before .before .before .before .before .before .before .args in let P = c .before .before .before .before .before .before .before .before .pre in let L = c .before .before .before .before .before .loop in let e = c .before .before .before .eight-on in (P .0, (P .1 .0, (omega (arith, e .ensures), e .ensures .1, P .1 .1 .0, L .inv .1 ∙ P .1 .1 .1)))
 
 loop-less : tie.Need-loop-less Inv-loop μ-loop
-loop-less c = omega (arith, c .before .before .before .before .before .before .loop-test .taken)
+loop-less c = let e = c .before .before .before .before .before .before .eight-on in omega (arith, e .ensures, c .before .before .before .before .before .before .before .loop-test .taken)
 
 loop-again : tie.Need-loop-again Inv-loop μ-loop
-unfolding allOnes
-loop-again c = let A = c .before .before .before .before .before .before .before .before .before .before .args in let L = c .before .before .before .before .before .before .before .loop in let O = c .before .before .fill-row in (
-  omega (arith, c .before .before .before .before .before .before .loop-test .taken),
-  O .kept .0 ∙ L .inv .1,
-  filled-more (A .v) (λ r x. rowOnes (A .l .now) ((r + 1) * A .st) (r * A .w) (A .st) x) (L .r) (O .last .0) (L .ring) (A .ring .now) (L .inv .2) (O .ensures),
-)
+loop-again c = let A = c .before .before .before .before .before .before .before .before .before .before .before .args in let L = c .before .before .before .before .before .before .before .before .loop in let e = c .before .before .before .before .before .before .eight-on in let O = c .before .before .fill-rows in (e .ensures .1, O .kept .0 ∙ L .inv .1, O .ensures (A .ring .now) (L .inv .2))
 
 loop-less-2 : tie.Need-loop-less-2 Inv-loop μ-loop
-loop-less-2 c = omega (arith, c .before .before .loop-test .taken)
+loop-less-2 c = let e = c .before .before .eight-on in omega (arith, e .ensures, c .before .before .before .loop-test .taken)
 
 loop-again-2 : tie.Need-loop-again-2 Inv-loop μ-loop
-unfolding allOnes
-loop-again-2 c = let A = c .before .before .before .before .before .before .args in let L = c .before .before .before .loop in (
-  omega (arith, c .before .before .loop-test .taken),
+loop-again-2 c = let A = c .before .before .before .before .before .before .before .args in let L = c .before .before .before .before .loop in let e = c .before .before .eight-on in (
+  e .ensures .1,
   L .inv .1,
-  filled-more (A .v) (λ r x. rowOnes (A .l .now) ((r + 1) * A .st) (r * A .w) (A .st) x) (L .r) (L .ring) (L .ring) (A .ring .now) (L .inv .2)
-      (filled-skip (A .v) (rowOnes (A .l .now) ((L .r + 1) * A .st) (L .r * A .w) (A .st)) (L .ring) (zero-row (A .l .now) ((L .r + 1) * A .st) (L .r * A .w) (A .st) (c .before .any .ensures (c .if1 .left)))),
+  filled-same (A .v) (allOnes (A .l .now) (A .w) (A .st) (L .r)) (allOnes (A .l .now) (A .w) (A .st) (e .result)) (L .ring) (A .ring .now)
+      (rows-skip-to (A .l .now) (A .w) (A .st) (L .r) (e .result) (omega (arith, e .ensures)) (c .before .any .ensures (c .if1 .left))) (L .inv .2),
 )
 
 same-length : tie.Need-same-length Inv-loop μ-loop
@@ -79,14 +74,13 @@ fill-spec =
     Inv-loop
     μ-loop
     loop-holds
-    add-r
+    eight-on-requires
     add-any
     mul-any
     add-any-2
     mul-any-2
-    add-any-3
     any-requires
-    fill-row-requires
+    fill-rows-requires
     loop-less
     loop-again
     loop-less-2

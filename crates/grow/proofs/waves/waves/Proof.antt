@@ -1,9 +1,10 @@
 use mathlib.Core.Path.{_≡_, refl, sym, _∙_}
-use mathlib.Core.Bool.{Bool}
-use Prim.Native.Nat.{ℕ, _≤_, _-_}
+use mathlib.Core.Bool.{Bool, true≢false}
+use Prim.Native.Nat.{ℕ, _≤_, _-_, _+_}
 use native.Mathlib.Omega.{arith}
 use borrow.Author.Needs.{needs}
 use lib.ListN.{length}
+use Rattle.laws.specs.Tests.{not-out}
 use Rattle.image.specs.Planes.{size-max}
 use Rattle.grow.specs.Fronts.{Afloat, Waved}
 use Rattle.grow.proofs.waves.waves.Statement.{statement}
@@ -45,7 +46,7 @@ same-length-3 : tie.Need-same-length-3 Inv-loop μ-loop
 same-length-3 c = c .before .before .before .before .before .before .before .before .before .before .wave .kept .1 .1 .0 ∙ c .before .before .before .before .before .before .before .before .before .before .before .before .before .before .before .loop .inv .3
 
 returns : tie.Need-returns Inv-loop μ-loop
-returns c = let U = c .before .before .before .before .before .before .before .before .before .before .wave in let L = c .before .before .before .before .before .before .before .before .before .before .before .before .before .before .before .loop in ((omega arith, omega (arith, c .before .before .before .before .before .before .before .before .before .before .before .before .before .before .loop-test .taken), U .ensures .0), λ over seed W. U .ensures .1 over seed (L .inv .4 over seed W))
+returns c = let U = c .before .before .before .before .before .before .before .before .before .before .wave in let L = c .before .before .before .before .before .before .before .before .before .before .before .before .before .before .before .loop in (U .ensures .0, (record { number = c .before .before .before .before .before .before .before .before .before .before .before .before .before .before .before .loop .k + 1; some-wave = omega arith; most = omega (arith, c .before .before .before .before .before .before .before .before .before .before .before .before .before .before .loop-test .taken); waved = λ over seed W. U .ensures .1 over seed (L .inv .4 over seed W) }, λ e. c .before .goes-on .ensures (not-out _ (c .if1 .taken))))
 
 loop-less : tie.Need-loop-less Inv-loop μ-loop
 loop-less c = omega (arith, c .before .before .before .before .before .before .before .before .before .before .before .before .before .before .loop-test .taken)
@@ -63,7 +64,7 @@ same-length-6 : tie.Need-same-length-6 Inv-loop μ-loop
 same-length-6 c = c .before .loop .inv .3
 
 returns-2 : tie.Need-returns-2 Inv-loop μ-loop
-returns-2 c = let L = c .before .loop in ((omega (arith, c .before .before .before .before .before .pre .1, c .loop-test .left), L .inv .0, L .inv .1), L .inv .4)
+returns-2 c = let L = c .before .loop in (L .inv .1, (record { number = L .k; some-wave = omega (arith, c .before .before .before .before .before .pre .1, c .loop-test .left); most = L .inv .0; waved = L .inv .4 }, λ e. absurd (true≢false e)))
 
 pub waves-spec : {M : Type 1} → statement M
 waves-spec =

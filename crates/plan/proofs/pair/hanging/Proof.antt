@@ -88,7 +88,7 @@ slice-aggregate-rings-4 c = search needs
 
 -- src/pair.rt:64:5
 rings-requires : tie.Need-rings-requires
-rings-requires c κs = 
+rings-requires c κs =
     let A = c .before .before .before .before .before .before .before .before .before .before .before .before .before .before .before .before .before .before .before .before .before .before .before .before .before .args in
     let P = c .before .before .before .before .before .before .before .before .before .before .before .before .before .before .before .before .before .before .before .before .before .before .before .before .before .pre in
     let L = c .before .before .before .before .before .before .before .before .before .before .before .before .before .before .before .before .before .before .before .read-plane in
@@ -141,7 +141,7 @@ slice-aggregate-write-plane c = search needs
 
 -- src/pair.rt:67:5
 write-plane-requires : tie.Need-write-plane-requires
-write-plane-requires c κs = 
+write-plane-requires c κs =
     let A = c .before .before .before .before .before .before .before .before .before .before .before .before .before .before .before .before .before .before .before .before .before .before .before .before .before .before .before .before .before .before .before .before .before .before .before .before .args in
     let P = c .before .before .before .before .before .before .before .before .before .before .before .before .before .before .before .before .before .before .before .before .before .before .before .before .before .before .before .before .before .before .before .before .before .before .before .before .pre in
     let L = c .before .before .before .before .before .before .before .before .before .before .before .before .before .before .before .before .before .before .before .before .before .before .before .before .before .before .before .before .before .before .read-plane in
@@ -168,7 +168,7 @@ same-length-2 c = search needs
 
 -- src/pair.rt:39:1
 returns : tie.Need-returns
-returns c = 
+returns c =
     let A = c .before .before .before .before .before .before .before .before .before .before .before .before .before .before .before .before .before .before .before .before .before .before .before .before .before .before .before .before .before .before .before .before .before .before .before .before .before .before .before .args in
     let P = c .before .before .before .before .before .before .before .before .before .before .before .before .before .before .before .before .before .before .before .before .before .before .before .before .before .before .before .before .before .before .before .before .before .before .before .before .before .before .before .pre in
     let L = c .before .before .before .before .before .before .before .before .before .before .before .before .before .before .before .before .before .before .before .before .before .before .before .before .before .before .before .before .before .before .before .before .before .read-plane in

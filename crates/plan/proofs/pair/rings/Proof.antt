@@ -40,7 +40,7 @@ same-length-3 c = search needs
 
 -- src/pair.rt:71:1
 returns-2 : tie.Need-returns-2
-returns-2 c = 
+returns-2 c =
     let A = c .before .before .before .before .before .before .before .before .before .before .args in
     let P = c .before .before .before .before .before .before .before .before .before .before .pre in
     let none = c .before .before .before .before .before .shaded .ensures (c .before .before .before .before .if1 .left) in (

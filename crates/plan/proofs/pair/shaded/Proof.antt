@@ -12,7 +12,7 @@ use Rattle.plan.proofs.pair.shaded.Reads as reads
 use Rattle.plan.proofs.pair.shaded.Lts as lts
 
 abbrev Inv-loop : tie.InvT-loop
-Inv-loop low up all₀ i₀ all i = 
+Inv-loop low up all₀ i₀ all i =
     (i ≤ length low) × (all ≡ 0 → NoneHangs i low up)
 
 abbrev μ-loop : tie.MeasureT-loop
@@ -40,14 +40,14 @@ loop-less c = omega (arith, c .before .before .loop-test .taken)
 
 -- src/pair.rt:19:5
 loop-again : tie.Need-loop-again Inv-loop μ-loop
-loop-again c = 
+loop-again c =
     let A = c .before .before .before .before .args in
     let L = c .before .before .before .loop in
     (omega (arith, c .before .before .loop-test .taken), λ e. let o = or-none (L .all) (bitAnd (getD (A .up .now) (L .i) 0) (255 - getD (A .low .now) (L .i) 0)) e in none-more (A .low .now) (A .up .now) (L .i) (c .shared-slice-known2 .given (L .i) .fits) (o .1) (L .inv .1 (o .0)))
 
 -- src/pair.rt:13:1
 returns : tie.Need-returns Inv-loop μ-loop
-returns c = 
+returns c =
     let A = c .before .before .args in
     let L = c .before .loop in
     none-hangs (A .low .now) (A .up .now) (length (A .low .now)) (L .all) (λ e. subst (λ (n : ℕ). NoneHangs n (A .low .now) (A .up .now)) (omega (arith, c .loop-test .left, L .inv .0)) (L .inv .1 e))

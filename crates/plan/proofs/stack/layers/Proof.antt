@@ -12,7 +12,7 @@ use Rattle.plan.proofs.stack.layers.Lts as lts
 use Rattle.plan.proofs.stack.layer_at.Reads as layer-at-reads
 
 abbrev Inv-loop : tie.InvT-loop
-Inv-loop part support₀ rings₀ above₀ w h n st q i₀ support rings above i = 
+Inv-loop part support₀ rings₀ above₀ w h n st q i₀ support rings above i =
     (length support ≡ length support₀) × (length rings ≡ length rings₀) × (length above ≡ length above₀) × (i ≤ n - 1) × Down w h n q i part support rings above
 
 abbrev μ-loop : tie.MeasureT-loop
@@ -32,7 +32,7 @@ sub-i-2 c = omega (arith, c .loop-test .taken)
 
 -- src/stack.rt:81:9
 layer-at-requires : tie.Need-layer-at-requires Inv-loop μ-loop
-layer-at-requires c κs = 
+layer-at-requires c κs =
     let A = c .before .before .before .before .before .before .before .before .before .args in
     let P = c .before .before .before .before .before .before .before .before .before .pre in
     let L = c .before .before .before .before .loop in
@@ -66,7 +66,7 @@ same-length-3 c = c .before .loop .inv .2
 
 -- src/stack.rt:61:1
 returns : tie.Need-returns Inv-loop μ-loop
-returns c = 
+returns c =
     let A = c .before .before .before .before .before .before .args in
     let P = c .before .before .before .before .before .before .pre in
     let L = c .before .loop in

@@ -11,7 +11,7 @@ use Rattle.plan.proofs.stack.put.Reads as reads
 use Rattle.plan.proofs.stack.put.Lts as lts
 
 abbrev Inv-loop : tie.InvT-loop
-Inv-loop from to₀ i₀ to i = 
+Inv-loop from to₀ i₀ to i =
     (length to ≡ length to₀) × (i ≤ length from) × ((k : ℕ) → k < i → getD to k 0 ≡ getD from k 0)
 
 abbrev μ-loop : tie.MeasureT-loop
@@ -39,7 +39,7 @@ loop-less c = omega (arith, c .before .loop-test .taken)
 
 -- src/stack.rt:18:5
 loop-again : tie.Need-loop-again Inv-loop μ-loop
-loop-again c = 
+loop-again c =
     let A = c .before .before .before .args in
     let L = c .before .before .loop in
     (length-set (L .to) (L .i) _ ∙ L .inv .0, omega (arith, c .before .loop-test .taken), put-more (L .to) (A .from .now) (L .i) (omega (arith, c .before .loop-test .taken, L .inv .0, c .before .before .before .pre)) (L .inv .2))
@@ -50,7 +50,7 @@ same-length c = c .before .loop .inv .0
 
 -- src/stack.rt:13:1
 returns : tie.Need-returns Inv-loop μ-loop
-returns c = 
+returns c =
     let L = c .before .loop in
     ext-getD 0 (L .to) (c .before .before .args .from .now) (L .inv .0 ∙ c .before .before .pre) (λ k lk. L .inv .2 k (omega (arith, c .loop-test .left, L .inv .0, c .before .before .pre)))
 

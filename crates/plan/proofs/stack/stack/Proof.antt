@@ -26,13 +26,13 @@ array-share-prefix-above c = plane-size (c .before .before .before .before .args
 
 -- src/stack.rt:114:18
 slice-aggregate-top : tie.Need-slice-aggregate-top
-slice-aggregate-top c = 
+slice-aggregate-top c =
     let Z = plane-size (c .before .before .before .before .before .args .w) (c .before .before .before .before .before .args .h) (c .before .before .before .before .before .args .st) (c .before .before .before .before .before .pre .0 .0) in
     Z .0 ∙ sym (fresh-pack (c .before .before .before .before .before .args .w) (c .before .before .before .before .before .args .h) (c .before .before .before .before .before .pre .0 .0 .w-min) (c .before .before .before .before .before .args .h * (c .before .before .before .before .before .args .st - 1)) (Z .0) (Z .1) .clean .long)
 
 -- src/stack.rt:114:5
 top-requires : tie.Need-top-requires
-top-requires c κs = 
+top-requires c κs =
     let P = c .before .before .before .before .before .pre in
     let Z = plane-size (c .before .before .before .before .before .args .w) (c .before .before .before .before .before .args .h) (c .before .before .before .before .before .args .st) (P .0 .0) in
     ((P .0 .0, P .0 .2), (P .1 .support-long, fresh-pack (c .before .before .before .before .before .args .w) (c .before .before .before .before .before .args .h) (P .0 .0 .w-min) (c .before .before .before .before .before .args .h * (c .before .before .before .before .before .args .st - 1)) (Z .0) (Z .1)))
@@ -43,13 +43,13 @@ array-borrow-prefix-above c = plane-size (c .before .before .before .before .bef
 
 -- src/stack.rt:115:34
 slice-aggregate-layers : tie.Need-slice-aggregate-layers
-slice-aggregate-layers c = 
+slice-aggregate-layers c =
     let Z = plane-size (c .before .before .before .before .before .before .before .before .before .before .before .args .w) (c .before .before .before .before .before .before .before .before .before .before .before .args .h) (c .before .before .before .before .before .before .before .before .before .before .before .args .st) (c .before .before .before .before .before .before .before .before .before .before .before .pre .0 .0) in
     Z .0 ∙ sym (fresh-pack (c .before .before .before .before .before .before .before .before .before .before .before .args .w) (c .before .before .before .before .before .before .before .before .before .before .before .args .h) (c .before .before .before .before .before .before .before .before .before .before .before .pre .0 .0 .w-min) (c .before .before .before .before .before .before .before .before .before .before .before .args .h * (c .before .before .before .before .before .before .before .before .before .before .before .args .st - 1)) (Z .0) (Z .1) .clean .long)
 
 -- src/stack.rt:115:5
 layers-requires : tie.Need-layers-requires
-layers-requires c κs = 
+layers-requires c κs =
     let A = c .before .before .before .before .before .before .before .before .before .before .before .args in
     let P = c .before .before .before .before .before .before .before .before .before .before .before .pre in
     let Z = plane-size (A .w) (A .h) (A .st) (P .0 .0) in

@@ -29,14 +29,14 @@ sub-a c = search needs
 
 -- src/stack.rt:92:13
 mul-a : tie.Need-mul-a
-mul-a c = 
+mul-a c =
     let A = c .before .before .args in
     let P = c .before .before .pre in
     omega (arith, layer-room (A .w) (A .h) (A .n) (A .h * (A .st - 1)) (A .n - 1) (length (A .support .now)) (plane-size (A .w) (A .h) (A .st) (P .0 .0) .0) (P .1 .0) (omega (arith, P .0 .1)), c .before .before .good .0)
 
 -- src/stack.rt:93:32
 add-put : tie.Need-add-put
-add-put c = 
+add-put c =
     let A = c .before .before .args in
     let P = c .before .before .pre in
     omega (arith, layer-room (A .w) (A .h) (A .n) (A .h * (A .st - 1)) (A .n - 1) (length (A .support .now)) (plane-size (A .w) (A .h) (A .st) (P .0 .0) .0) (P .1 .0) (omega (arith, P .0 .1)), c .before .before .good .0)
@@ -51,14 +51,14 @@ part-put-start c = search needs
 
 -- src/stack.rt:93:16
 part-put-end : tie.Need-part-put-end
-part-put-end c = 
+part-put-end c =
     let A = c .before .before .args in
     let P = c .before .before .pre in
     layer-room (A .w) (A .h) (A .n) (A .h * (A .st - 1)) (A .n - 1) (length (A .support .now)) (plane-size (A .w) (A .h) (A .st) (P .0 .0) .0) (P .1 .0) (omega (arith, P .0 .1))
 
 -- src/stack.rt:93:5
 put-requires : tie.Need-put-requires
-put-requires c κs = 
+put-requires c κs =
     let A = c .before .before .before .args in
     let P = c .before .before .before .pre in
     lent-support (A .w) (A .h) (A .n) (A .h * (A .st - 1)) (A .n - 1) (A .support .now) (plane-size (A .w) (A .h) (A .st) (P .0 .0) .0) (P .1 .0) (omega (arith, P .0 .1)) ∙ sym (P .1 .1 .clean .long)
@@ -69,7 +69,7 @@ same-length c = same-len-mid ((c .before .before .before .before .before .before
 
 -- src/stack.rt:86:1
 returns : tie.Need-returns
-returns c = 
+returns c =
     let A = c .before .before .before .before .before .before .args in
     let P = c .before .before .before .before .before .before .pre in
     let T = c .before .before .put in

@@ -1,0 +1,12 @@
+use borrow.Author.Needs.{needs}
+use Rattle.judge.proofs.BitLaws.{bit-hanging}
+use Rattle.judge.proofs.hangs.hanging.Statement.{statement}
+use Rattle.judge.proofs.hangs.hanging.Tie as tie
+use Rattle.judge.proofs.hangs.hanging.Reads as reads
+use Rattle.judge.proofs.hangs.hanging.Lts as lts
+
+returns : tie.Need-returns
+returns c = λ k l. bit-hanging (c .args .up) (c .args .above) (c .args .low) (c .args .below) (search needs) (search needs) k l
+
+pub hanging-spec : {M : Type 1} → statement M
+hanging-spec = tie.close (tie.spec returns)

@@ -1,0 +1,38 @@
+// Where a ring plane has rings: what is gathered of each stretch of 256 pixels.
+ghost use mathlib.Core.Path.{_≡_};
+ghost use Prim.Native.Nat.{ℕ, _+_, _/_, _<_, _≤_};
+ghost use lib.ListN.{length, getD};
+
+// All rings of n pixels from pixel x on, joined: none is larger.
+fn gather(rings: &[u16], x: usize, n: usize) -> u16
+    requires { ⌜ x + n ≤ length (now rings) ⌝ }
+    ensures { λ r. ⌜ ((j : ℕ) → j < n → getD (now (rings .entry)) (x + j) 0 ≤ r) ⌝ }
+{
+    let mut all: u16 = 0;
+    let mut j = 0;
+    while j < n {
+        all = all | rings[x + j];
+        j += 1;
+    }
+    all
+}
+
+// The rings of each stretch of 256 pixels joined, into `marks`; and those of all n pixels. A loop of a fixed length costs least.
+pub fn mark(rings: &[u16], marks: &mut [u16], n: usize) -> u16
+    requires { ⌜ (n ≤ 65536) × ((n ≤ length (now rings)) × (257 ≤ length (now marks))) ⌝ }
+    ensures { λ r. ⌜ ((p : ℕ) → p < n → (getD (now (rings .entry)) p 0 ≤ r) × (getD (now (rings .entry)) p 0 ≤ getD (now (marks .exit)) (p / 256) 0)) ⌝ }
+{
+    let mut all: u16 = 0;
+    let mut x = 0;
+    let mut s = 0;
+    while x + 256 <= n {
+        let m = gather(rings, x, 256);
+        marks[s] = m;
+        all = all | m;
+        x += 256;
+        s += 1;
+    }
+    let m = gather(rings, x, n - x);
+    marks[s] = m;
+    all | m
+}
