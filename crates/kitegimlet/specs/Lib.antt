@@ -1,2 +1,3 @@
 pub mod Packed
 pub mod Seen
+pub mod Outcomes
