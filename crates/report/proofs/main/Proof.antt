@@ -40,7 +40,7 @@ array-share-prefix-out : tie.Need-array-share-prefix-out
 array-share-prefix-out c = search needs
 
 slice-aggregate-write-all : tie.Need-slice-aggregate-write-all
-slice-aggregate-write-all c = sym (length-take-le (c .before .before .before .before .report .result) (c .before .before .before .before .report .last .1 .1 .0) (omega (arith, c .before .before .before .before .report .ensures .room, c .before .before .before .before .report .kept .1 .1 .0, length-replicate {A = ℕ} 16384 0)))
+slice-aggregate-write-all c = sym (length-take-le (c .before .before .report .result) (c .before .before .report .last .1 .1 .0) (omega (arith, c .before .before .report .ensures .room, c .before .before .report .kept .1 .1 .0, length-replicate {A = ℕ} 16384 0)))
 
 write-all-requires : tie.Need-write-all-requires
 write-all-requires c κs = search needs
