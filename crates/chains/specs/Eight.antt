@@ -89,35 +89,30 @@ row-more w h r c f y x all here past n l b d m lm a e =
 abbrev pub leans : ℕ → ℕ → Plane → Plane → (ℕ → ℕ) → Plane
 leans w h low up ring p = touching (h * w) (touch w) (source (seeds low up) ring (ring p - 1)) p
 
-module _ (w h t : ℕ) (close low up : Plane) (ring : ℕ → ℕ) (p : ℕ) where
-  bad-is : 0 < ring p → (u l e n s : Bool) → up p ≡ u → low p ≡ l → leb (ring p) t ≡ e → close p ≡ n → leans w h low up ring p ≡ s →
-      badBy w h t close low up ring p ≡ not (u && not l && (e || n) && s)
+module _ (w h : ℕ) (close low up : Plane) (ring : ℕ → ℕ) (p : ℕ) where
+  bad-is : 0 < ring p → (u l n s : Bool) → up p ≡ u → low p ≡ l → close p ≡ n → leans w h low up ring p ≡ s → badBy w h close low up ring p ≡ not (u && not l && n && s)
   unfolding badBy shadow
-  bad-is b u l e n s eu el ee en es = rw (lt-ltb 0 (ring p) b, eu, el, ee, en, es)
+  bad-is b u l n s eu el en es = rw (lt-ltb 0 (ring p) b, eu, el, en, es)
 
-  pub no-ring : ring p ≡ 0 → badBy w h t close low up ring p ≡ false
+  pub no-ring : ring p ≡ 0 → badBy w h close low up ring p ≡ false
   unfolding badBy
   no-ring e = rw (le-ltb 0 (ring p) (omega arith))
 
-  pub not-above : 0 < ring p → up p ≡ false → true ≡ badBy w h t close low up ring p
-  not-above b u = sym (bad-is b false _ _ _ _ u refl refl refl refl)
+  pub not-above : 0 < ring p → up p ≡ false → true ≡ badBy w h close low up ring p
+  not-above b u = sym (bad-is b false _ _ _ u refl refl refl)
 
-  pub in-low : 0 < ring p → up p ≡ true → low p ≡ true → true ≡ badBy w h t close low up ring p
-  in-low b u l = sym (bad-is b true true _ _ _ u l refl refl refl)
+  pub in-low : 0 < ring p → up p ≡ true → low p ≡ true → true ≡ badBy w h close low up ring p
+  in-low b u l = sym (bad-is b true true _ _ u l refl refl)
 
   not-and : (n : Bool) → not (n && false) ≡ true
   not-and true = refl
   not-and false = refl
 
-  pub untouched : 0 < ring p → up p ≡ true → low p ≡ false → leans w h low up ring p ≡ false → true ≡ badBy w h t close low up ring p
-  untouched b u l s = sym (bad-is b true false _ _ false u l refl refl s ∙ not-and (leb (ring p) t || close p))
+  pub untouched : 0 < ring p → up p ≡ true → low p ≡ false → leans w h low up ring p ≡ false → true ≡ badBy w h close low up ring p
+  untouched b u l s = sym (bad-is b true false _ false u l refl s ∙ not-and (close p))
 
-  -- a ring that is taken for near
-  pub by-ring : 0 < ring p → up p ≡ true → low p ≡ false → leans w h low up ring p ≡ true → ring p ≤ t → false ≡ badBy w h t close low up ring p
-  by-ring b u l s e = sym (bad-is b true false true _ true u l (le-leb (ring p) t e) refl s)
-
-  pub by-close : 0 < ring p → up p ≡ true → low p ≡ false → leans w h low up ring p ≡ true → t < ring p → (n : Bool) → close p ≡ n → not n ≡ badBy w h t close low up ring p
-  by-close b u l s e n en = sym (bad-is b true false false n true u l (lt-leb (ring p) t e) en s ∙ rw (and-true n))
+  pub by-close : 0 < ring p → up p ≡ true → low p ≡ false → leans w h low up ring p ≡ true → (n : Bool) → close p ≡ n → not n ≡ badBy w h close low up ring p
+  by-close b u l s n en = sym (bad-is b true false n true u l en s ∙ rw (and-true n))
 
 -- a pixel of a plane, as the code reads it
 pub pixel-is : (w : ℕ) (s : List ℕ) (r c rb : ℕ) (b : Bool) → c < w → rb ≡ rowBytes w → b ≡ bitIn s (r * rb) c → packed w s (r * w + c) ≡ b
@@ -125,9 +120,9 @@ pixel-is w s r c rb b lc er e = plane-at w s r c lc ∙ rw (← er) (sym e)
 
 -- A row without rings ----------------------------------------------------------------------------------------------------
 
-module _ (w h t : ℕ) (close low up : Plane) (rings : List ℕ) where
-  pub quiet-row : (r x : ℕ) → x ≡ r * w → ((j : ℕ) → j < w → getD rings (x + j) 0 ≡ 0) → (y : ℕ) → 0 ≤ y → y < w → badBy w h t close low up (λ o. getD rings o 0) (r * w + y) ≡ false
-  quiet-row r x e all y a l = no-ring w h t close low up (λ o. getD rings o 0) (r * w + y) (rw (← e) (all y l))
+module _ (w h : ℕ) (close low up : Plane) (rings : List ℕ) where
+  pub quiet-row : (r x : ℕ) → x ≡ r * w → ((j : ℕ) → j < w → getD rings (x + j) 0 ≡ 0) → (y : ℕ) → 0 ≤ y → y < w → badBy w h close low up (λ o. getD rings o 0) (r * w + y) ≡ false
+  quiet-row r x e all y a l = no-ring w h close low up (λ o. getD rings o 0) (r * w + y) (rw (← e) (all y l))
 
 -- what `touches` tells, for the ring that the pixel has
 pub leans-is : (w h : ℕ) (low up rings : List ℕ) (p k : ℕ) → k ≡ getD rings p 0 → (b : Bool) → b ≡ touching (h * w) (touch w) (lender w low up rings k) p →
@@ -135,15 +130,15 @@ pub leans-is : (w h : ℕ) (low up rings : List ℕ) (p k : ℕ) → k ≡ getD 
 unfolding lender
 leans-is w h low up rings p k ek b e = rw (← ek) (sym e)
 
-pub bad-row : (w h t : ℕ) (close low up : Plane) (ring : ℕ → ℕ) (r x : ℕ) → x ≡ r * w → (c : ℕ) → c < w → badBy w h t close low up ring (x + c) ≡ badBy w h t close low up ring (r * w + c)
-bad-row w h t close low up ring r x e c l = rw e
+pub bad-row : (w h : ℕ) (close low up : Plane) (ring : ℕ → ℕ) (r x : ℕ) → x ≡ r * w → (c : ℕ) → c < w → badBy w h close low up ring (x + c) ≡ badBy w h close low up ring (r * w + c)
+bad-row w h close low up ring r x e c l = rw e
 
 -- eight columns without rings
-pub quiet-eight : (w h t : ℕ) (close low up : Plane) (rings : List ℕ) (r c : ℕ) → ((j : ℕ) → j < 8 → getD rings (r * w + c + j) 0 ≡ 0) →
-    ((y : ℕ) → 0 ≤ y → y < c → badBy w h t close low up (λ o. getD rings o 0) (r * w + y) ≡ false) →
-    (y : ℕ) → 0 ≤ y → y < c + 8 → badBy w h t close low up (λ o. getD rings o 0) (r * w + y) ≡ false
-quiet-eight w h t close low up rings r c all before y z l =
+pub quiet-eight : (w h : ℕ) (close low up : Plane) (rings : List ℕ) (r c : ℕ) → ((j : ℕ) → j < 8 → getD rings (r * w + c + j) 0 ≡ 0) →
+    ((y : ℕ) → 0 ≤ y → y < c → badBy w h close low up (λ o. getD rings o 0) (r * w + y) ≡ false) →
+    (y : ℕ) → 0 ≤ y → y < c + 8 → badBy w h close low up (λ o. getD rings o 0) (r * w + y) ≡ false
+quiet-eight w h close low up rings r c all before y z l =
     split (ltb y c) (λ b. before y z (ltb-true y c b)) (λ b.
     let g : c ≤ y = ltb-false y c b in
     let e : r * w + c + (y - c) ≡ r * w + y = omega arith in
-    no-ring w h t close low up (λ o. getD rings o 0) (r * w + y) (rw e at (all (y - c) (omega arith))))
+    no-ring w h close low up (λ o. getD rings o 0) (r * w + y) (rw e at (all (y - c) (omega arith))))

@@ -22,11 +22,10 @@ use Rattle.places.specs.Sound.{Beside, Sound}
 use Rattle.places.specs.Finding.{least-none}
 use Rattle.chains.specs.Eight.{leans}
 
--- where no ring is taken for near, and the plane is the near plane, it is a bad ring
-by-near-plane : (w h q t : ℕ) (close low up : Plane) (ring : ℕ → ℕ) (p : ℕ) → t ≡ 0 → close p ≡ near w h q low p → badBy w h t close low up ring p ≡ badHere w h q low up ring p
+-- where the plane is the near plane, it is a bad ring
+by-near-plane : (w h q : ℕ) (close low up : Plane) (ring : ℕ → ℕ) (p : ℕ) → close p ≡ near w h q low p → badBy w h close low up ring p ≡ badHere w h q low up ring p
 unfolding badBy badHere fits reached
-by-near-plane w h q t close low up ring p z e =
-    split (ltb 0 (ring p)) (λ b. rw (b, e, lt-leb (ring p) t (omega (arith, ltb-true 0 (ring p) b)))) (λ b. rw b)
+by-near-plane w h q close low up ring p e = rw e
 
 -- one step further
 further : (a b c n : ℕ) → apart a b ≤ 1 → apart b c ≤ n → apart a c ≤ suc n
@@ -103,18 +102,18 @@ pub no-rings : (w h q : ℕ) (low up : Plane) (ring : ℕ → ℕ) (p : ℕ) →
 unfolding badHere
 no-rings w h q low up ring p l = rw (le-ltb 0 (ring p) l)
 
-module _ (w h q t st : ℕ) (low up : Plane) (ring : ℕ → ℕ) (scratch : List ℕ) (z : Sizes w h st) (r : ℕ) (s : Least 0 (h * w) (badBy w h t (seen w st scratch) low up ring) r) where
+module _ (w h q st : ℕ) (low up : Plane) (ring : ℕ → ℕ) (scratch : List ℕ) (z : Sizes w h st) (r : ℕ) (s : Least 0 (h * w) (badBy w h (seen w st scratch) low up ring) r) where
   -- the search with the near plane is the one for bad rings
-  pub near-search : t ≡ 0 → Drawn w h st (near w h q low) scratch → Least 0 (h * w) (badHere w h q low up ring) r
-  near-search e d = record {
+  pub near-search : Drawn w h st (near w h q low) scratch → Least 0 (h * w) (badHere w h q low up ring) r
+  near-search d = record {
     low = s .low;
     bound = s .bound;
     before = λ y a l. sym (same y (omega arith)) ∙ s .before y a l;
     at = λ l. sym (same r l) ∙ s .at l;
   }
     where
-      same : (p : ℕ) → p < h * w → badBy w h t (seen w st scratch) low up ring p ≡ badHere w h q low up ring p
-      same p l = by-near-plane w h q t (seen w st scratch) low up ring p e (scratch-seen w h st z (near w h q low) scratch (d .is) p l)
+      same : (p : ℕ) → p < h * w → badBy w h (seen w st scratch) low up ring p ≡ badHere w h q low up ring p
+      same p l = by-near-plane w h q (seen w st scratch) low up ring p (scratch-seen w h st z (near w h q low) scratch (d .is) p l)
 
 -- the largest ring that is near by itself: the root of half the bound
 pub trust-small : (q r : ℕ) → q ≤ 1024 → r ≡ root (q / 2) → r ≤ 32

@@ -24,7 +24,7 @@ fn quiet(rings: &[u16], x: usize, n: usize) -> bool
     all == 0
 }
 
-// Whether the pixel may not carry its ring k. A ring of at most t, and a pixel of `close`, is taken for near.
+// Whether the pixel may not carry its ring k. The pixels of `close` are the near ones.
 fn bad(
     low: &[u8],
     up: &[u8],
@@ -34,14 +34,13 @@ fn bad(
     h: usize,
     r: usize,
     c: usize,
-    t: u16,
     k: u16,
 ) -> bool
     requires fits { ⌜ (0 < k) × (Sized w h × ((r < h) × (c < w))) ⌝ }
     requires planes { ⌜ (length (now rings) ≡ h * w) × ((length (now low) ≡ h * rowBytes w) × (length (now up) ≡ h * rowBytes w)) ⌝ }
     requires own { ⌜ k ≡ getD (now rings) (r * w + c) 0 ⌝ }
     requires scratch { ⌜ 8704 ≤ length (now close) ⌝ }
-    ensures { λ b. ⌜ b ≡ badBy w h t (seen w (rowBytes w + 1) (now (close .entry))) (packed w (now (low .entry))) (packed w (now (up .entry))) (λ o. getD (now (rings .entry)) o 0) (r * w + c) ⌝ }
+    ensures { λ b. ⌜ b ≡ badBy w h (seen w (rowBytes w + 1) (now (close .entry))) (packed w (now (low .entry))) (packed w (now (up .entry))) (λ o. getD (now (rings .entry)) o 0) (r * w + c) ⌝ }
 {
     let rb = limits::row_bytes(w);
     let at = r * rb;
@@ -53,9 +52,6 @@ fn bad(
     }
     if !crate::leaning::touches(low, up, rings, w, h, r, c, k) {
         return true;
-    }
-    if k <= t {
-        return false;
     }
     !places::bits::pixel_at(close, (r + 1) * (rb + 1), c)
 }
@@ -71,19 +67,18 @@ fn bad_from(
     r: usize,
     a: usize,
     to: usize,
-    t: u16,
 ) -> usize
     requires fits { ⌜ Sized w h × ((r < h) × ((a ≤ to) × (to ≤ w))) ⌝ }
     requires planes { ⌜ (length (now rings) ≡ h * w) × ((length (now low) ≡ h * rowBytes w) × (length (now up) ≡ h * rowBytes w)) ⌝ }
     requires scratch { ⌜ 8704 ≤ length (now close) ⌝ }
-    ensures { λ s. ⌜ Least a to (λ c. badBy w h t (seen w (rowBytes w + 1) (now (close .entry))) (packed w (now (low .entry))) (packed w (now (up .entry))) (λ o. getD (now (rings .entry)) o 0) (r * w + c)) s ⌝ }
+    ensures { λ s. ⌜ Least a to (λ c. badBy w h (seen w (rowBytes w + 1) (now (close .entry))) (packed w (now (low .entry))) (packed w (now (up .entry))) (λ o. getD (now (rings .entry)) o 0) (r * w + c)) s ⌝ }
 {
     let x = r * w;
     let mut c = a;
     while c < to {
         let k = rings[x + c];
         if k != 0 {
-            if bad(low, up, rings, close, w, h, r, c, t, k) {
+            if bad(low, up, rings, close, w, h, r, c, k) {
                 return c;
             }
         }
@@ -101,12 +96,11 @@ fn bad_row(
     w: usize,
     h: usize,
     r: usize,
-    t: u16,
 ) -> usize
     requires fits { ⌜ Sized w h × (r < h) ⌝ }
     requires planes { ⌜ (length (now rings) ≡ h * w) × ((length (now low) ≡ h * rowBytes w) × (length (now up) ≡ h * rowBytes w)) ⌝ }
     requires scratch { ⌜ 8704 ≤ length (now close) ⌝ }
-    ensures { λ s. ⌜ Least 0 w (λ c. badBy w h t (seen w (rowBytes w + 1) (now (close .entry))) (packed w (now (low .entry))) (packed w (now (up .entry))) (λ o. getD (now (rings .entry)) o 0) (r * w + c)) s ⌝ }
+    ensures { λ s. ⌜ Least 0 w (λ c. badBy w h (seen w (rowBytes w + 1) (now (close .entry))) (packed w (now (low .entry))) (packed w (now (up .entry))) (λ o. getD (now (rings .entry)) o 0) (r * w + c)) s ⌝ }
 {
     let x = r * w;
     if quiet(rings, x, w) {
@@ -115,27 +109,27 @@ fn bad_row(
     let mut c = 0;
     while c + 8 <= w {
         if !quiet(rings, x + c, 8) {
-            let b = bad_from(low, up, rings, close, w, h, r, c, c + 8, t);
+            let b = bad_from(low, up, rings, close, w, h, r, c, c + 8);
             if b < c + 8 {
                 return b;
             }
         }
         c += 8;
     }
-    bad_from(low, up, rings, close, w, h, r, c, w, t)
+    bad_from(low, up, rings, close, w, h, r, c, w)
 }
 
-// The first bad ring of a pair, where rings of at most t, and the pixels of `close`, are taken for near.
-fn bad_by(low: &[u8], up: &[u8], rings: &[u16], close: &[u8], w: usize, h: usize, t: u16) -> usize
+// The first bad ring of a pair, whose near pixels are those of `close`.
+fn bad_by(low: &[u8], up: &[u8], rings: &[u16], close: &[u8], w: usize, h: usize) -> usize
     requires fits { ⌜ Sized w h ⌝ }
     requires planes { ⌜ (length (now rings) ≡ h * w) × ((length (now low) ≡ h * rowBytes w) × (length (now up) ≡ h * rowBytes w)) ⌝ }
     requires scratch { ⌜ 8704 ≤ length (now close) ⌝ }
-    ensures { λ s. ⌜ Least 0 (h * w) (badBy w h t (seen w (rowBytes w + 1) (now (close .entry))) (packed w (now (low .entry))) (packed w (now (up .entry))) (λ o. getD (now (rings .entry)) o 0)) s ⌝ }
+    ensures { λ s. ⌜ Least 0 (h * w) (badBy w h (seen w (rowBytes w + 1) (now (close .entry))) (packed w (now (low .entry))) (packed w (now (up .entry))) (λ o. getD (now (rings .entry)) o 0)) s ⌝ }
 {
     let mut x = 0;
     let mut r = 0;
     while r < h {
-        let c = bad_row(low, up, rings, close, w, h, r, t);
+        let c = bad_row(low, up, rings, close, w, h, r);
         if c < w {
             return x + c;
         }
@@ -165,7 +159,7 @@ fn bad_plane(
     }
     let mut close = [0u8; 8704];
     crate::sound::near_of(low, &mut close, w, h, q);
-    bad_by(low, up, rings, &close, w, h, 0)
+    bad_by(low, up, rings, &close, w, h)
 }
 
 // The first bad ring of the stack.

@@ -33,11 +33,10 @@ overlapHere part sup p = sup p && part p
 unfoldable pub badHere : ℕ → ℕ → ℕ → Plane → Plane → (ℕ → ℕ) → Plane
 badHere w h q low up ring p = ltb 0 (ring p) && not (fits (h * w) (touch w) (reached w h q low up) (seeds low up) ring (ring p - 1) p)
 
--- the same where rings up to t, and the pixels of `close`, are taken for near
-unfoldable pub badBy : ℕ → ℕ → ℕ → Plane → Plane → Plane → (ℕ → ℕ) → Plane
-badBy w h t close low up ring p =
-    ltb 0 (ring p)
-    && not (shadow low up p && (leb (ring p) t || close p) && touching (h * w) (touch w) (source (seeds low up) ring (ring p - 1)) p)
+-- the same where the pixels of `close` are taken for near
+unfoldable pub badBy : ℕ → ℕ → Plane → Plane → Plane → (ℕ → ℕ) → Plane
+badBy w h close low up ring p =
+    ltb 0 (ring p) && not (shadow low up p && close p && touching (h * w) (touch w) (source (seeds low up) ring (ring p - 1)) p)
 
 unfoldable pub unheldHere : Plane → Plane → Plane → Plane → (ℕ → ℕ) → Plane
 unheldHere low up below above ring p = (up p || above p) && not (low p || below p) && eqb (ring p) 0

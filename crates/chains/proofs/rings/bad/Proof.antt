@@ -6,7 +6,7 @@ use mathlib.Core.Path.{_∙_}
 use lib.ListN.{getD}
 use Rattle.image.specs.Rows.{packed}
 use Rattle.image.specs.Scratch.{seen}
-use Rattle.chains.specs.Eight.{by-close, by-ring, byte-in-plane, in-low, leans-is, not-above, pixel-is, untouched}
+use Rattle.chains.specs.Eight.{by-close, byte-in-plane, in-low, leans-is, not-above, pixel-is, untouched}
 use Rattle.places.specs.Rows.{fit-of}
 use Rattle.chains.specs.Scratch.{close-in, close-is}
 use Rattle.rules.specs.Images.{rowBytes}
@@ -28,22 +28,19 @@ pixel-at-requires : tie.Need-pixel-at-requires
 pixel-at-requires c κs = byte-in-plane (c .before .before .before .before .before .args .w) (c .before .before .before .before .before .args .h) (c .before .before .before .before .before .args .r) (c .before .before .before .before .before .args .c) (c .row-bytes .result) _ (c .before .before .before .before .before .pre .0 .1 .1 .0) (c .before .before .before .before .before .pre .0 .1 .1 .1) (c .row-bytes .ensures .0) (c .before .before .before .before .before .pre .1 .0 .1 .1)
 
 returns : tie.Need-returns
-returns c = not-above (c .before .before .before .before .before .before .before .args .w) (c .before .before .before .before .before .before .before .args .h) (c .before .before .before .before .before .before .before .args .t) (seen (c .before .before .before .before .before .before .before .args .w) (rowBytes (c .before .before .before .before .before .before .before .args .w) + 1) (c .before .before .before .before .before .before .before .args .close .now)) (packed (c .before .before .before .before .before .before .before .args .w) (c .before .before .before .before .before .before .before .args .low .now)) (packed (c .before .before .before .before .before .before .before .args .w) (c .before .before .before .before .before .before .before .args .up .now)) (λ o. getD (c .before .before .before .before .before .before .before .args .rings .now) o 0) (c .before .before .before .before .before .before .before .args .r * c .before .before .before .before .before .before .before .args .w + c .before .before .before .before .before .before .before .args .c) (rw (c .before .before .before .before .before .before .before .pre .1 .1 .0) at (c .before .before .before .before .before .before .before .pre .0 .0)) (pixel-is (c .before .before .before .before .before .before .before .args .w) (c .before .before .before .before .before .before .before .args .up .now) (c .before .before .before .before .before .before .before .args .r) (c .before .before .before .before .before .before .before .args .c) (c .before .before .row-bytes .result) (c .before .pixel-at .result) (c .before .before .before .before .before .before .before .pre .0 .1 .1 .1) (c .before .before .row-bytes .ensures .0) (c .before .pixel-at .ensures) ∙ not-true _ (c .if1 .taken))
+returns c = not-above (c .before .before .before .before .before .before .before .args .w) (c .before .before .before .before .before .before .before .args .h) (seen (c .before .before .before .before .before .before .before .args .w) (rowBytes (c .before .before .before .before .before .before .before .args .w) + 1) (c .before .before .before .before .before .before .before .args .close .now)) (packed (c .before .before .before .before .before .before .before .args .w) (c .before .before .before .before .before .before .before .args .low .now)) (packed (c .before .before .before .before .before .before .before .args .w) (c .before .before .before .before .before .before .before .args .up .now)) (λ o. getD (c .before .before .before .before .before .before .before .args .rings .now) o 0) (c .before .before .before .before .before .before .before .args .r * c .before .before .before .before .before .before .before .args .w + c .before .before .before .before .before .before .before .args .c) (rw (c .before .before .before .before .before .before .before .pre .1 .1 .0) at (c .before .before .before .before .before .before .before .pre .0 .0)) (pixel-is (c .before .before .before .before .before .before .before .args .w) (c .before .before .before .before .before .before .before .args .up .now) (c .before .before .before .before .before .before .before .args .r) (c .before .before .before .before .before .before .before .args .c) (c .before .before .row-bytes .result) (c .before .pixel-at .result) (c .before .before .before .before .before .before .before .pre .0 .1 .1 .1) (c .before .before .row-bytes .ensures .0) (c .before .pixel-at .ensures) ∙ not-true _ (c .if1 .taken))
 
 pixel-at-requires-2 : tie.Need-pixel-at-requires-2
 pixel-at-requires-2 c κs = byte-in-plane (c .before .before .before .before .before .before .before .args .w) (c .before .before .before .before .before .before .before .args .h) (c .before .before .before .before .before .before .before .args .r) (c .before .before .before .before .before .before .before .args .c) (c .before .before .row-bytes .result) _ (c .before .before .before .before .before .before .before .pre .0 .1 .1 .0) (c .before .before .before .before .before .before .before .pre .0 .1 .1 .1) (c .before .before .row-bytes .ensures .0) (c .before .before .before .before .before .before .before .pre .1 .0 .1 .0)
 
 returns-2 : tie.Need-returns-2
-returns-2 c = in-low (c .before .before .before .before .before .before .before .before .before .args .w) (c .before .before .before .before .before .before .before .before .before .args .h) (c .before .before .before .before .before .before .before .before .before .args .t) (seen (c .before .before .before .before .before .before .before .before .before .args .w) (rowBytes (c .before .before .before .before .before .before .before .before .before .args .w) + 1) (c .before .before .before .before .before .before .before .before .before .args .close .now)) (packed (c .before .before .before .before .before .before .before .before .before .args .w) (c .before .before .before .before .before .before .before .before .before .args .low .now)) (packed (c .before .before .before .before .before .before .before .before .before .args .w) (c .before .before .before .before .before .before .before .before .before .args .up .now)) (λ o. getD (c .before .before .before .before .before .before .before .before .before .args .rings .now) o 0) (c .before .before .before .before .before .before .before .before .before .args .r * c .before .before .before .before .before .before .before .before .before .args .w + c .before .before .before .before .before .before .before .before .before .args .c) (rw (c .before .before .before .before .before .before .before .before .before .pre .1 .1 .0) at (c .before .before .before .before .before .before .before .before .before .pre .0 .0)) (pixel-is (c .before .before .before .before .before .before .before .before .before .args .w) (c .before .before .before .before .before .before .before .before .before .args .up .now) (c .before .before .before .before .before .before .before .before .before .args .r) (c .before .before .before .before .before .before .before .before .before .args .c) (c .before .before .before .before .row-bytes .result) (c .before .before .before .pixel-at .result) (c .before .before .before .before .before .before .before .before .before .pre .0 .1 .1 .1) (c .before .before .before .before .row-bytes .ensures .0) (c .before .before .before .pixel-at .ensures) ∙ not-false _ (c .before .before .if1 .left)) (pixel-is (c .before .before .before .before .before .before .before .before .before .args .w) (c .before .before .before .before .before .before .before .before .before .args .low .now) (c .before .before .before .before .before .before .before .before .before .args .r) (c .before .before .before .before .before .before .before .before .before .args .c) (c .before .before .before .before .row-bytes .result) (c .before .pixel-at2 .result) (c .before .before .before .before .before .before .before .before .before .pre .0 .1 .1 .1) (c .before .before .before .before .row-bytes .ensures .0) (c .before .pixel-at2 .ensures) ∙ c .if2 .taken)
+returns-2 c = in-low (c .before .before .before .before .before .before .before .before .before .args .w) (c .before .before .before .before .before .before .before .before .before .args .h) (seen (c .before .before .before .before .before .before .before .before .before .args .w) (rowBytes (c .before .before .before .before .before .before .before .before .before .args .w) + 1) (c .before .before .before .before .before .before .before .before .before .args .close .now)) (packed (c .before .before .before .before .before .before .before .before .before .args .w) (c .before .before .before .before .before .before .before .before .before .args .low .now)) (packed (c .before .before .before .before .before .before .before .before .before .args .w) (c .before .before .before .before .before .before .before .before .before .args .up .now)) (λ o. getD (c .before .before .before .before .before .before .before .before .before .args .rings .now) o 0) (c .before .before .before .before .before .before .before .before .before .args .r * c .before .before .before .before .before .before .before .before .before .args .w + c .before .before .before .before .before .before .before .before .before .args .c) (rw (c .before .before .before .before .before .before .before .before .before .pre .1 .1 .0) at (c .before .before .before .before .before .before .before .before .before .pre .0 .0)) (pixel-is (c .before .before .before .before .before .before .before .before .before .args .w) (c .before .before .before .before .before .before .before .before .before .args .up .now) (c .before .before .before .before .before .before .before .before .before .args .r) (c .before .before .before .before .before .before .before .before .before .args .c) (c .before .before .before .before .row-bytes .result) (c .before .before .before .pixel-at .result) (c .before .before .before .before .before .before .before .before .before .pre .0 .1 .1 .1) (c .before .before .before .before .row-bytes .ensures .0) (c .before .before .before .pixel-at .ensures) ∙ not-false _ (c .before .before .if1 .left)) (pixel-is (c .before .before .before .before .before .before .before .before .before .args .w) (c .before .before .before .before .before .before .before .before .before .args .low .now) (c .before .before .before .before .before .before .before .before .before .args .r) (c .before .before .before .before .before .before .before .before .before .args .c) (c .before .before .before .before .row-bytes .result) (c .before .pixel-at2 .result) (c .before .before .before .before .before .before .before .before .before .pre .0 .1 .1 .1) (c .before .before .before .before .row-bytes .ensures .0) (c .before .pixel-at2 .ensures) ∙ c .if2 .taken)
 
 touches-requires : tie.Need-touches-requires
 touches-requires c κs = (c .before .before .before .before .before .before .before .before .before .pre .0, (c .before .before .before .before .before .before .before .before .before .pre .1 .0, c .before .before .before .before .before .before .before .before .before .pre .1 .1 .0))
 
 returns-3 : tie.Need-returns-3
-returns-3 c = untouched (c .before .before .before .before .before .before .before .before .before .before .before .args .w) (c .before .before .before .before .before .before .before .before .before .before .before .args .h) (c .before .before .before .before .before .before .before .before .before .before .before .args .t) (seen (c .before .before .before .before .before .before .before .before .before .before .before .args .w) (rowBytes (c .before .before .before .before .before .before .before .before .before .before .before .args .w) + 1) (c .before .before .before .before .before .before .before .before .before .before .before .args .close .now)) (packed (c .before .before .before .before .before .before .before .before .before .before .before .args .w) (c .before .before .before .before .before .before .before .before .before .before .before .args .low .now)) (packed (c .before .before .before .before .before .before .before .before .before .before .before .args .w) (c .before .before .before .before .before .before .before .before .before .before .before .args .up .now)) (λ o. getD (c .before .before .before .before .before .before .before .before .before .before .before .args .rings .now) o 0) (c .before .before .before .before .before .before .before .before .before .before .before .args .r * c .before .before .before .before .before .before .before .before .before .before .before .args .w + c .before .before .before .before .before .before .before .before .before .before .before .args .c) (rw (c .before .before .before .before .before .before .before .before .before .before .before .pre .1 .1 .0) at (c .before .before .before .before .before .before .before .before .before .before .before .pre .0 .0)) (pixel-is (c .before .before .before .before .before .before .before .before .before .before .before .args .w) (c .before .before .before .before .before .before .before .before .before .before .before .args .up .now) (c .before .before .before .before .before .before .before .before .before .before .before .args .r) (c .before .before .before .before .before .before .before .before .before .before .before .args .c) (c .before .before .before .before .before .before .row-bytes .result) (c .before .before .before .before .before .pixel-at .result) (c .before .before .before .before .before .before .before .before .before .before .before .pre .0 .1 .1 .1) (c .before .before .before .before .before .before .row-bytes .ensures .0) (c .before .before .before .before .before .pixel-at .ensures) ∙ not-false _ (c .before .before .before .before .if1 .left)) (pixel-is (c .before .before .before .before .before .before .before .before .before .before .before .args .w) (c .before .before .before .before .before .before .before .before .before .before .before .args .low .now) (c .before .before .before .before .before .before .before .before .before .before .before .args .r) (c .before .before .before .before .before .before .before .before .before .before .before .args .c) (c .before .before .before .before .before .before .row-bytes .result) (c .before .before .before .pixel-at2 .result) (c .before .before .before .before .before .before .before .before .before .before .before .pre .0 .1 .1 .1) (c .before .before .before .before .before .before .row-bytes .ensures .0) (c .before .before .before .pixel-at2 .ensures) ∙ c .before .before .if2 .left) (leans-is (c .before .before .before .before .before .before .before .before .before .before .before .args .w) (c .before .before .before .before .before .before .before .before .before .before .before .args .h) (c .before .before .before .before .before .before .before .before .before .before .before .args .low .now) (c .before .before .before .before .before .before .before .before .before .before .before .args .up .now) (c .before .before .before .before .before .before .before .before .before .before .before .args .rings .now) (c .before .before .before .before .before .before .before .before .before .before .before .args .r * c .before .before .before .before .before .before .before .before .before .before .before .args .w + c .before .before .before .before .before .before .before .before .before .before .before .args .c) (c .before .before .before .before .before .before .before .before .before .before .before .args .k) (c .before .before .before .before .before .before .before .before .before .before .before .pre .1 .1 .0) (c .before .touches .result) (c .before .touches .ensures) ∙ not-true _ (c .if3 .taken))
-
-returns-4 : tie.Need-returns-4
-returns-4 c = by-ring (c .before .before .before .before .before .before .before .before .before .before .before .before .args .w) (c .before .before .before .before .before .before .before .before .before .before .before .before .args .h) (c .before .before .before .before .before .before .before .before .before .before .before .before .args .t) (seen (c .before .before .before .before .before .before .before .before .before .before .before .before .args .w) (rowBytes (c .before .before .before .before .before .before .before .before .before .before .before .before .args .w) + 1) (c .before .before .before .before .before .before .before .before .before .before .before .before .args .close .now)) (packed (c .before .before .before .before .before .before .before .before .before .before .before .before .args .w) (c .before .before .before .before .before .before .before .before .before .before .before .before .args .low .now)) (packed (c .before .before .before .before .before .before .before .before .before .before .before .before .args .w) (c .before .before .before .before .before .before .before .before .before .before .before .before .args .up .now)) (λ o. getD (c .before .before .before .before .before .before .before .before .before .before .before .before .args .rings .now) o 0) (c .before .before .before .before .before .before .before .before .before .before .before .before .args .r * c .before .before .before .before .before .before .before .before .before .before .before .before .args .w + c .before .before .before .before .before .before .before .before .before .before .before .before .args .c) (rw (c .before .before .before .before .before .before .before .before .before .before .before .before .pre .1 .1 .0) at (c .before .before .before .before .before .before .before .before .before .before .before .before .pre .0 .0)) (pixel-is (c .before .before .before .before .before .before .before .before .before .before .before .before .args .w) (c .before .before .before .before .before .before .before .before .before .before .before .before .args .up .now) (c .before .before .before .before .before .before .before .before .before .before .before .before .args .r) (c .before .before .before .before .before .before .before .before .before .before .before .before .args .c) (c .before .before .before .before .before .before .before .row-bytes .result) (c .before .before .before .before .before .before .pixel-at .result) (c .before .before .before .before .before .before .before .before .before .before .before .before .pre .0 .1 .1 .1) (c .before .before .before .before .before .before .before .row-bytes .ensures .0) (c .before .before .before .before .before .before .pixel-at .ensures) ∙ not-false _ (c .before .before .before .before .before .if1 .left)) (pixel-is (c .before .before .before .before .before .before .before .before .before .before .before .before .args .w) (c .before .before .before .before .before .before .before .before .before .before .before .before .args .low .now) (c .before .before .before .before .before .before .before .before .before .before .before .before .args .r) (c .before .before .before .before .before .before .before .before .before .before .before .before .args .c) (c .before .before .before .before .before .before .before .row-bytes .result) (c .before .before .before .before .pixel-at2 .result) (c .before .before .before .before .before .before .before .before .before .before .before .before .pre .0 .1 .1 .1) (c .before .before .before .before .before .before .before .row-bytes .ensures .0) (c .before .before .before .before .pixel-at2 .ensures) ∙ c .before .before .before .if2 .left) (leans-is (c .before .before .before .before .before .before .before .before .before .before .before .before .args .w) (c .before .before .before .before .before .before .before .before .before .before .before .before .args .h) (c .before .before .before .before .before .before .before .before .before .before .before .before .args .low .now) (c .before .before .before .before .before .before .before .before .before .before .before .before .args .up .now) (c .before .before .before .before .before .before .before .before .before .before .before .before .args .rings .now) (c .before .before .before .before .before .before .before .before .before .before .before .before .args .r * c .before .before .before .before .before .before .before .before .before .before .before .before .args .w + c .before .before .before .before .before .before .before .before .before .before .before .before .args .c) (c .before .before .before .before .before .before .before .before .before .before .before .before .args .k) (c .before .before .before .before .before .before .before .before .before .before .before .before .pre .1 .1 .0) (c .before .before .touches .result) (c .before .before .touches .ensures) ∙ not-false _ (c .before .if3 .left)) (rw (c .before .before .before .before .before .before .before .before .before .before .before .before .pre .1 .1 .0) at (c .if4 .taken))
+returns-3 c = untouched (c .before .before .before .before .before .before .before .before .before .before .before .args .w) (c .before .before .before .before .before .before .before .before .before .before .before .args .h) (seen (c .before .before .before .before .before .before .before .before .before .before .before .args .w) (rowBytes (c .before .before .before .before .before .before .before .before .before .before .before .args .w) + 1) (c .before .before .before .before .before .before .before .before .before .before .before .args .close .now)) (packed (c .before .before .before .before .before .before .before .before .before .before .before .args .w) (c .before .before .before .before .before .before .before .before .before .before .before .args .low .now)) (packed (c .before .before .before .before .before .before .before .before .before .before .before .args .w) (c .before .before .before .before .before .before .before .before .before .before .before .args .up .now)) (λ o. getD (c .before .before .before .before .before .before .before .before .before .before .before .args .rings .now) o 0) (c .before .before .before .before .before .before .before .before .before .before .before .args .r * c .before .before .before .before .before .before .before .before .before .before .before .args .w + c .before .before .before .before .before .before .before .before .before .before .before .args .c) (rw (c .before .before .before .before .before .before .before .before .before .before .before .pre .1 .1 .0) at (c .before .before .before .before .before .before .before .before .before .before .before .pre .0 .0)) (pixel-is (c .before .before .before .before .before .before .before .before .before .before .before .args .w) (c .before .before .before .before .before .before .before .before .before .before .before .args .up .now) (c .before .before .before .before .before .before .before .before .before .before .before .args .r) (c .before .before .before .before .before .before .before .before .before .before .before .args .c) (c .before .before .before .before .before .before .row-bytes .result) (c .before .before .before .before .before .pixel-at .result) (c .before .before .before .before .before .before .before .before .before .before .before .pre .0 .1 .1 .1) (c .before .before .before .before .before .before .row-bytes .ensures .0) (c .before .before .before .before .before .pixel-at .ensures) ∙ not-false _ (c .before .before .before .before .if1 .left)) (pixel-is (c .before .before .before .before .before .before .before .before .before .before .before .args .w) (c .before .before .before .before .before .before .before .before .before .before .before .args .low .now) (c .before .before .before .before .before .before .before .before .before .before .before .args .r) (c .before .before .before .before .before .before .before .before .before .before .before .args .c) (c .before .before .before .before .before .before .row-bytes .result) (c .before .before .before .pixel-at2 .result) (c .before .before .before .before .before .before .before .before .before .before .before .pre .0 .1 .1 .1) (c .before .before .before .before .before .before .row-bytes .ensures .0) (c .before .before .before .pixel-at2 .ensures) ∙ c .before .before .if2 .left) (leans-is (c .before .before .before .before .before .before .before .before .before .before .before .args .w) (c .before .before .before .before .before .before .before .before .before .before .before .args .h) (c .before .before .before .before .before .before .before .before .before .before .before .args .low .now) (c .before .before .before .before .before .before .before .before .before .before .before .args .up .now) (c .before .before .before .before .before .before .before .before .before .before .before .args .rings .now) (c .before .before .before .before .before .before .before .before .before .before .before .args .r * c .before .before .before .before .before .before .before .before .before .before .before .args .w + c .before .before .before .before .before .before .before .before .before .before .before .args .c) (c .before .before .before .before .before .before .before .before .before .before .before .args .k) (c .before .before .before .before .before .before .before .before .before .before .before .pre .1 .1 .0) (c .before .touches .result) (c .before .touches .ensures) ∙ not-true _ (c .if3 .taken))
 
 add-pixel-at : tie.Need-add-pixel-at
 add-pixel-at c = search needs
@@ -52,13 +49,13 @@ add-pixel-at-2 : tie.Need-add-pixel-at-2
 add-pixel-at-2 c = search needs
 
 mul-pixel-at : tie.Need-mul-pixel-at
-mul-pixel-at c = omega (arith, close-in (c .before .before .before .before .before .before .before .before .before .before .before .before .args .w) (c .before .before .before .before .before .before .before .before .before .before .before .before .args .h) (c .before .before .before .before .before .before .before .before .before .before .before .before .args .r) (c .before .before .before .before .before .before .before .before .before .before .before .before .args .c) (c .before .before .before .before .before .before .before .row-bytes .result) _ (c .before .before .before .before .before .before .before .before .before .before .before .before .pre .0 .1 .0) (c .before .before .before .before .before .before .before .before .before .before .before .before .pre .0 .1 .1 .0) (c .before .before .before .before .before .before .before .before .before .before .before .before .pre .0 .1 .1 .1) (c .before .before .before .before .before .before .before .row-bytes .ensures .1) (c .before .before .before .before .before .before .before .before .before .before .before .before .pre .1 .1 .1), fit-of (c .before .before .before .before .before .before .before .before .before .before .before .before .args .r + 1) (c .before .before .before .before .before .before .before .row-bytes .result + 1) 256 33 (omega (arith, c .before .before .before .before .before .before .before .before .before .before .before .before .pre .0 .1 .0 .h-high)) (omega (arith, c .before .before .before .before .before .before .before .row-bytes .ensures .1)))
+mul-pixel-at c = omega (arith, close-in (c .before .before .before .before .before .before .before .before .before .before .before .args .w) (c .before .before .before .before .before .before .before .before .before .before .before .args .h) (c .before .before .before .before .before .before .before .before .before .before .before .args .r) (c .before .before .before .before .before .before .before .before .before .before .before .args .c) (c .before .before .before .before .before .before .row-bytes .result) _ (c .before .before .before .before .before .before .before .before .before .before .before .pre .0 .1 .0) (c .before .before .before .before .before .before .before .before .before .before .before .pre .0 .1 .1 .0) (c .before .before .before .before .before .before .before .before .before .before .before .pre .0 .1 .1 .1) (c .before .before .before .before .before .before .row-bytes .ensures .1) (c .before .before .before .before .before .before .before .before .before .before .before .pre .1 .1 .1), fit-of (c .before .before .before .before .before .before .before .before .before .before .before .args .r + 1) (c .before .before .before .before .before .before .row-bytes .result + 1) 256 33 (omega (arith, c .before .before .before .before .before .before .before .before .before .before .before .pre .0 .1 .0 .h-high)) (omega (arith, c .before .before .before .before .before .before .row-bytes .ensures .1)))
 
 pixel-at-requires-3 : tie.Need-pixel-at-requires-3
-pixel-at-requires-3 c κs = close-in (c .before .before .before .before .before .before .before .before .before .before .before .before .args .w) (c .before .before .before .before .before .before .before .before .before .before .before .before .args .h) (c .before .before .before .before .before .before .before .before .before .before .before .before .args .r) (c .before .before .before .before .before .before .before .before .before .before .before .before .args .c) (c .before .before .before .before .before .before .before .row-bytes .result) _ (c .before .before .before .before .before .before .before .before .before .before .before .before .pre .0 .1 .0) (c .before .before .before .before .before .before .before .before .before .before .before .before .pre .0 .1 .1 .0) (c .before .before .before .before .before .before .before .before .before .before .before .before .pre .0 .1 .1 .1) (c .before .before .before .before .before .before .before .row-bytes .ensures .1) (c .before .before .before .before .before .before .before .before .before .before .before .before .pre .1 .1 .1)
+pixel-at-requires-3 c κs = close-in (c .before .before .before .before .before .before .before .before .before .before .before .args .w) (c .before .before .before .before .before .before .before .before .before .before .before .args .h) (c .before .before .before .before .before .before .before .before .before .before .before .args .r) (c .before .before .before .before .before .before .before .before .before .before .before .args .c) (c .before .before .before .before .before .before .row-bytes .result) _ (c .before .before .before .before .before .before .before .before .before .before .before .pre .0 .1 .0) (c .before .before .before .before .before .before .before .before .before .before .before .pre .0 .1 .1 .0) (c .before .before .before .before .before .before .before .before .before .before .before .pre .0 .1 .1 .1) (c .before .before .before .before .before .before .row-bytes .ensures .1) (c .before .before .before .before .before .before .before .before .before .before .before .pre .1 .1 .1)
 
-returns-5 : tie.Need-returns-5
-returns-5 c = by-close (c .before .before .before .before .before .before .before .before .before .before .before .before .before .args .w) (c .before .before .before .before .before .before .before .before .before .before .before .before .before .args .h) (c .before .before .before .before .before .before .before .before .before .before .before .before .before .args .t) (seen (c .before .before .before .before .before .before .before .before .before .before .before .before .before .args .w) (rowBytes (c .before .before .before .before .before .before .before .before .before .before .before .before .before .args .w) + 1) (c .before .before .before .before .before .before .before .before .before .before .before .before .before .args .close .now)) (packed (c .before .before .before .before .before .before .before .before .before .before .before .before .before .args .w) (c .before .before .before .before .before .before .before .before .before .before .before .before .before .args .low .now)) (packed (c .before .before .before .before .before .before .before .before .before .before .before .before .before .args .w) (c .before .before .before .before .before .before .before .before .before .before .before .before .before .args .up .now)) (λ o. getD (c .before .before .before .before .before .before .before .before .before .before .before .before .before .args .rings .now) o 0) (c .before .before .before .before .before .before .before .before .before .before .before .before .before .args .r * c .before .before .before .before .before .before .before .before .before .before .before .before .before .args .w + c .before .before .before .before .before .before .before .before .before .before .before .before .before .args .c) (rw (c .before .before .before .before .before .before .before .before .before .before .before .before .before .pre .1 .1 .0) at (c .before .before .before .before .before .before .before .before .before .before .before .before .before .pre .0 .0)) (pixel-is (c .before .before .before .before .before .before .before .before .before .before .before .before .before .args .w) (c .before .before .before .before .before .before .before .before .before .before .before .before .before .args .up .now) (c .before .before .before .before .before .before .before .before .before .before .before .before .before .args .r) (c .before .before .before .before .before .before .before .before .before .before .before .before .before .args .c) (c .before .before .before .before .before .before .before .before .row-bytes .result) (c .before .before .before .before .before .before .before .pixel-at .result) (c .before .before .before .before .before .before .before .before .before .before .before .before .before .pre .0 .1 .1 .1) (c .before .before .before .before .before .before .before .before .row-bytes .ensures .0) (c .before .before .before .before .before .before .before .pixel-at .ensures) ∙ not-false _ (c .before .before .before .before .before .before .if1 .left)) (pixel-is (c .before .before .before .before .before .before .before .before .before .before .before .before .before .args .w) (c .before .before .before .before .before .before .before .before .before .before .before .before .before .args .low .now) (c .before .before .before .before .before .before .before .before .before .before .before .before .before .args .r) (c .before .before .before .before .before .before .before .before .before .before .before .before .before .args .c) (c .before .before .before .before .before .before .before .before .row-bytes .result) (c .before .before .before .before .before .pixel-at2 .result) (c .before .before .before .before .before .before .before .before .before .before .before .before .before .pre .0 .1 .1 .1) (c .before .before .before .before .before .before .before .before .row-bytes .ensures .0) (c .before .before .before .before .before .pixel-at2 .ensures) ∙ c .before .before .before .before .if2 .left) (leans-is (c .before .before .before .before .before .before .before .before .before .before .before .before .before .args .w) (c .before .before .before .before .before .before .before .before .before .before .before .before .before .args .h) (c .before .before .before .before .before .before .before .before .before .before .before .before .before .args .low .now) (c .before .before .before .before .before .before .before .before .before .before .before .before .before .args .up .now) (c .before .before .before .before .before .before .before .before .before .before .before .before .before .args .rings .now) (c .before .before .before .before .before .before .before .before .before .before .before .before .before .args .r * c .before .before .before .before .before .before .before .before .before .before .before .before .before .args .w + c .before .before .before .before .before .before .before .before .before .before .before .before .before .args .c) (c .before .before .before .before .before .before .before .before .before .before .before .before .before .args .k) (c .before .before .before .before .before .before .before .before .before .before .before .before .before .pre .1 .1 .0) (c .before .before .before .touches .result) (c .before .before .before .touches .ensures) ∙ not-false _ (c .before .before .if3 .left)) (rw (c .before .before .before .before .before .before .before .before .before .before .before .before .before .pre .1 .1 .0) at (c .before .if4 .left)) _ (close-is (c .before .before .before .before .before .before .before .before .before .before .before .before .before .args .w) (c .before .before .before .before .before .before .before .before .before .before .before .before .before .args .close .now) (c .before .before .before .before .before .before .before .before .before .before .before .before .before .args .r) (c .before .before .before .before .before .before .before .before .before .before .before .before .before .args .c) (c .before .before .before .before .before .before .before .before .row-bytes .result) (c .pixel-at3 .result) (c .before .before .before .before .before .before .before .before .before .before .before .before .before .pre .0 .1 .1 .1) (c .before .before .before .before .before .before .before .before .row-bytes .ensures .0) (c .pixel-at3 .ensures))
+returns-4 : tie.Need-returns-4
+returns-4 c = by-close (c .before .before .before .before .before .before .before .before .before .before .before .before .args .w) (c .before .before .before .before .before .before .before .before .before .before .before .before .args .h) (seen (c .before .before .before .before .before .before .before .before .before .before .before .before .args .w) (rowBytes (c .before .before .before .before .before .before .before .before .before .before .before .before .args .w) + 1) (c .before .before .before .before .before .before .before .before .before .before .before .before .args .close .now)) (packed (c .before .before .before .before .before .before .before .before .before .before .before .before .args .w) (c .before .before .before .before .before .before .before .before .before .before .before .before .args .low .now)) (packed (c .before .before .before .before .before .before .before .before .before .before .before .before .args .w) (c .before .before .before .before .before .before .before .before .before .before .before .before .args .up .now)) (λ o. getD (c .before .before .before .before .before .before .before .before .before .before .before .before .args .rings .now) o 0) (c .before .before .before .before .before .before .before .before .before .before .before .before .args .r * c .before .before .before .before .before .before .before .before .before .before .before .before .args .w + c .before .before .before .before .before .before .before .before .before .before .before .before .args .c) (rw (c .before .before .before .before .before .before .before .before .before .before .before .before .pre .1 .1 .0) at (c .before .before .before .before .before .before .before .before .before .before .before .before .pre .0 .0)) (pixel-is (c .before .before .before .before .before .before .before .before .before .before .before .before .args .w) (c .before .before .before .before .before .before .before .before .before .before .before .before .args .up .now) (c .before .before .before .before .before .before .before .before .before .before .before .before .args .r) (c .before .before .before .before .before .before .before .before .before .before .before .before .args .c) (c .before .before .before .before .before .before .before .row-bytes .result) (c .before .before .before .before .before .before .pixel-at .result) (c .before .before .before .before .before .before .before .before .before .before .before .before .pre .0 .1 .1 .1) (c .before .before .before .before .before .before .before .row-bytes .ensures .0) (c .before .before .before .before .before .before .pixel-at .ensures) ∙ not-false _ (c .before .before .before .before .before .if1 .left)) (pixel-is (c .before .before .before .before .before .before .before .before .before .before .before .before .args .w) (c .before .before .before .before .before .before .before .before .before .before .before .before .args .low .now) (c .before .before .before .before .before .before .before .before .before .before .before .before .args .r) (c .before .before .before .before .before .before .before .before .before .before .before .before .args .c) (c .before .before .before .before .before .before .before .row-bytes .result) (c .before .before .before .before .pixel-at2 .result) (c .before .before .before .before .before .before .before .before .before .before .before .before .pre .0 .1 .1 .1) (c .before .before .before .before .before .before .before .row-bytes .ensures .0) (c .before .before .before .before .pixel-at2 .ensures) ∙ c .before .before .before .if2 .left) (leans-is (c .before .before .before .before .before .before .before .before .before .before .before .before .args .w) (c .before .before .before .before .before .before .before .before .before .before .before .before .args .h) (c .before .before .before .before .before .before .before .before .before .before .before .before .args .low .now) (c .before .before .before .before .before .before .before .before .before .before .before .before .args .up .now) (c .before .before .before .before .before .before .before .before .before .before .before .before .args .rings .now) (c .before .before .before .before .before .before .before .before .before .before .before .before .args .r * c .before .before .before .before .before .before .before .before .before .before .before .before .args .w + c .before .before .before .before .before .before .before .before .before .before .before .before .args .c) (c .before .before .before .before .before .before .before .before .before .before .before .before .args .k) (c .before .before .before .before .before .before .before .before .before .before .before .before .pre .1 .1 .0) (c .before .before .touches .result) (c .before .before .touches .ensures) ∙ not-false _ (c .before .if3 .left)) _ (close-is (c .before .before .before .before .before .before .before .before .before .before .before .before .args .w) (c .before .before .before .before .before .before .before .before .before .before .before .before .args .close .now) (c .before .before .before .before .before .before .before .before .before .before .before .before .args .r) (c .before .before .before .before .before .before .before .before .before .before .before .before .args .c) (c .before .before .before .before .before .before .before .row-bytes .result) (c .pixel-at3 .result) (c .before .before .before .before .before .before .before .before .before .before .before .before .pre .0 .1 .1 .1) (c .before .before .before .before .before .before .before .row-bytes .ensures .0) (c .pixel-at3 .ensures))
 
 pub bad-spec : {M : Type 1} → statement M
 bad-spec =
@@ -72,9 +69,8 @@ bad-spec =
     returns-2
     touches-requires
     returns-3
-    returns-4
     add-pixel-at
     add-pixel-at-2
     mul-pixel-at
     pixel-at-requires-3
-    returns-5)
+    returns-4)

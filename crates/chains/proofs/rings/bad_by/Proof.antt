@@ -18,10 +18,10 @@ use Rattle.chains.proofs.rings.bad_by.Lts as lts
 use Rattle.chains.proofs.rings.bad_row.Reads as bad-row-reads
 
 abbrev Inv-loop : tie.InvT-loop
-Inv-loop low up rings close w h t x₀ r₀ x r = (r ≤ h) × (x ≡ r * w) × ((y : ℕ) → y < x → y < h * w → badBy w h t (seen w (rowBytes w + 1) close) (packed w low) (packed w up) (λ o. getD rings o 0) y ≡ false)
+Inv-loop low up rings close w h x₀ r₀ x r = (r ≤ h) × (x ≡ r * w) × ((y : ℕ) → y < x → y < h * w → badBy w h (seen w (rowBytes w + 1) close) (packed w low) (packed w up) (λ o. getD rings o 0) y ≡ false)
 
 abbrev μ-loop : tie.MeasureT-loop
-μ-loop low up rings close w h t x₀ r₀ x r = h - r
+μ-loop low up rings close w h x₀ r₀ x r = h - r
 
 loop-holds : tie.Need-loop-holds Inv-loop μ-loop
 loop-holds c = (omega arith, omega arith, λ y a b. absurd (omega arith))
@@ -33,7 +33,7 @@ add-result : tie.Need-add-result Inv-loop μ-loop
 add-result c = omega (arith, stretch-in (c .before .before .before .loop .r) (c .before .before .before .before .before .before .before .before .args .h) (c .before .before .before .before .before .before .before .before .args .w) (c .before .before .before .loop .x) (c .before .before .before .loop .inv .1) (c .before .before .loop-test .taken), area-fit _ _ (c .before .before .before .before .before .before .before .before .pre .0))
 
 returns : tie.Need-returns Inv-loop μ-loop
-returns c = stretch-hit (c .before .before .before .before .before .before .before .before .args .h * c .before .before .before .before .before .before .before .before .args .w) _ _ (c .before .before .before .loop .x) (c .before .before .before .before .before .before .before .before .args .w) (c .before .bad-row .result) (c .before .before .before .loop .inv .2) (bad-row (c .before .before .before .before .before .before .before .before .args .w) (c .before .before .before .before .before .before .before .before .args .h) (c .before .before .before .before .before .before .before .before .args .t) (seen (c .before .before .before .before .before .before .before .before .args .w) (rowBytes (c .before .before .before .before .before .before .before .before .args .w) + 1) (c .before .before .before .before .before .before .before .before .args .close .now)) (packed (c .before .before .before .before .before .before .before .before .args .w) (c .before .before .before .before .before .before .before .before .args .low .now)) (packed (c .before .before .before .before .before .before .before .before .args .w) (c .before .before .before .before .before .before .before .before .args .up .now)) (λ o. getD (c .before .before .before .before .before .before .before .before .args .rings .now) o 0) (c .before .before .before .loop .r) (c .before .before .before .loop .x) (c .before .before .before .loop .inv .1)) (c .before .bad-row .ensures) (stretch-in (c .before .before .before .loop .r) (c .before .before .before .before .before .before .before .before .args .h) (c .before .before .before .before .before .before .before .before .args .w) (c .before .before .before .loop .x) (c .before .before .before .loop .inv .1) (c .before .before .loop-test .taken)) (c .if1 .taken)
+returns c = stretch-hit (c .before .before .before .before .before .before .before .before .args .h * c .before .before .before .before .before .before .before .before .args .w) _ _ (c .before .before .before .loop .x) (c .before .before .before .before .before .before .before .before .args .w) (c .before .bad-row .result) (c .before .before .before .loop .inv .2) (bad-row (c .before .before .before .before .before .before .before .before .args .w) (c .before .before .before .before .before .before .before .before .args .h) (seen (c .before .before .before .before .before .before .before .before .args .w) (rowBytes (c .before .before .before .before .before .before .before .before .args .w) + 1) (c .before .before .before .before .before .before .before .before .args .close .now)) (packed (c .before .before .before .before .before .before .before .before .args .w) (c .before .before .before .before .before .before .before .before .args .low .now)) (packed (c .before .before .before .before .before .before .before .before .args .w) (c .before .before .before .before .before .before .before .before .args .up .now)) (λ o. getD (c .before .before .before .before .before .before .before .before .args .rings .now) o 0) (c .before .before .before .loop .r) (c .before .before .before .loop .x) (c .before .before .before .loop .inv .1)) (c .before .bad-row .ensures) (stretch-in (c .before .before .before .loop .r) (c .before .before .before .before .before .before .before .before .args .h) (c .before .before .before .before .before .before .before .before .args .w) (c .before .before .before .loop .x) (c .before .before .before .loop .inv .1) (c .before .before .loop-test .taken)) (c .if1 .taken)
 
 add-x : tie.Need-add-x Inv-loop μ-loop
 add-x c = omega (arith, stretch-in (c .before .before .before .loop .r) (c .before .before .before .before .before .before .before .before .args .h) (c .before .before .before .before .before .before .before .before .args .w) (c .before .before .before .loop .x) (c .before .before .before .loop .inv .1) (c .before .before .loop-test .taken), area-fit _ _ (c .before .before .before .before .before .before .before .before .pre .0))
@@ -45,7 +45,7 @@ loop-less : tie.Need-loop-less Inv-loop μ-loop
 loop-less c = search needs
 
 loop-again : tie.Need-loop-again Inv-loop μ-loop
-loop-again c = (omega arith, stretch-next _ _ _ (c .before .before .before .loop .inv .1), stretch-more (c .before .before .before .before .before .before .before .before .args .h * c .before .before .before .before .before .before .before .before .args .w) _ _ (c .before .before .before .loop .x) (c .before .before .before .before .before .before .before .before .args .w) (c .before .bad-row .result) (c .before .before .before .loop .inv .2) (bad-row (c .before .before .before .before .before .before .before .before .args .w) (c .before .before .before .before .before .before .before .before .args .h) (c .before .before .before .before .before .before .before .before .args .t) (seen (c .before .before .before .before .before .before .before .before .args .w) (rowBytes (c .before .before .before .before .before .before .before .before .args .w) + 1) (c .before .before .before .before .before .before .before .before .args .close .now)) (packed (c .before .before .before .before .before .before .before .before .args .w) (c .before .before .before .before .before .before .before .before .args .low .now)) (packed (c .before .before .before .before .before .before .before .before .args .w) (c .before .before .before .before .before .before .before .before .args .up .now)) (λ o. getD (c .before .before .before .before .before .before .before .before .args .rings .now) o 0) (c .before .before .before .loop .r) (c .before .before .before .loop .x) (c .before .before .before .loop .inv .1)) (c .before .bad-row .ensures) (c .before .before .before .loop .x + c .before .before .before .before .before .before .before .before .args .w) (c .if1 .left) (λ y a b. a))
+loop-again c = (omega arith, stretch-next _ _ _ (c .before .before .before .loop .inv .1), stretch-more (c .before .before .before .before .before .before .before .before .args .h * c .before .before .before .before .before .before .before .before .args .w) _ _ (c .before .before .before .loop .x) (c .before .before .before .before .before .before .before .before .args .w) (c .before .bad-row .result) (c .before .before .before .loop .inv .2) (bad-row (c .before .before .before .before .before .before .before .before .args .w) (c .before .before .before .before .before .before .before .before .args .h) (seen (c .before .before .before .before .before .before .before .before .args .w) (rowBytes (c .before .before .before .before .before .before .before .before .args .w) + 1) (c .before .before .before .before .before .before .before .before .args .close .now)) (packed (c .before .before .before .before .before .before .before .before .args .w) (c .before .before .before .before .before .before .before .before .args .low .now)) (packed (c .before .before .before .before .before .before .before .before .args .w) (c .before .before .before .before .before .before .before .before .args .up .now)) (λ o. getD (c .before .before .before .before .before .before .before .before .args .rings .now) o 0) (c .before .before .before .loop .r) (c .before .before .before .loop .x) (c .before .before .before .loop .inv .1)) (c .before .bad-row .ensures) (c .before .before .before .loop .x + c .before .before .before .before .before .before .before .before .args .w) (c .if1 .left) (λ y a b. a))
 
 returns-2 : tie.Need-returns-2 Inv-loop μ-loop
 returns-2 c = least-end (c .before .before .before .before .before .before .args .h * c .before .before .before .before .before .before .args .w) _ (c .before .loop .x) (stretch-end (c .before .loop .r) (c .before .before .before .before .before .before .args .h) (c .before .before .before .before .before .before .args .w) (c .before .loop .x) (c .before .loop .inv .1) (c .before .loop .inv .0) (c .loop-test .left)) (c .before .loop .inv .2)

@@ -19,10 +19,10 @@ use Rattle.chains.proofs.rings.bad_from.Lts as lts
 use Rattle.chains.proofs.rings.bad.Reads as bad-reads
 
 abbrev Inv-loop : tie.InvT-loop
-Inv-loop low up rings close w h r a to t x c₀ c = (a ≤ c) × (c ≤ to) × ((y : ℕ) → a ≤ y → y < c → badBy w h t (seen w (rowBytes w + 1) close) (packed w low) (packed w up) (λ o. getD rings o 0) (r * w + y) ≡ false)
+Inv-loop low up rings close w h r a to x c₀ c = (a ≤ c) × (c ≤ to) × ((y : ℕ) → a ≤ y → y < c → badBy w h (seen w (rowBytes w + 1) close) (packed w low) (packed w up) (λ o. getD rings o 0) (r * w + y) ≡ false)
 
 abbrev μ-loop : tie.MeasureT-loop
-μ-loop low up rings close w h r a to t x c₀ c = to - c
+μ-loop low up rings close w h r a to x c₀ c = to - c
 
 mul-x : tie.Need-mul-x Inv-loop μ-loop
 mul-x c = omega (arith, stretch-in (c .before .before .before .before .args .r) (c .before .before .before .before .args .h) (c .before .before .before .before .args .w) (c .before .before .before .before .args .r * c .before .before .before .before .args .w) refl (c .before .before .before .before .pre .0 .1 .0), area-fit _ _ (c .before .before .before .before .pre .0 .0))
@@ -52,7 +52,7 @@ loop-less : tie.Need-loop-less Inv-loop μ-loop
 loop-less c = search needs
 
 loop-again : tie.Need-loop-again Inv-loop μ-loop
-loop-again c = (omega arith, omega arith, fails-more (c .before .before .before .before .before .before .before .before .args .a) (λ n. badBy (c .before .before .before .before .before .before .before .before .args .w) (c .before .before .before .before .before .before .before .before .args .h) (c .before .before .before .before .before .before .before .before .args .t) (seen (c .before .before .before .before .before .before .before .before .args .w) (rowBytes (c .before .before .before .before .before .before .before .before .args .w) + 1) (c .before .before .before .before .before .before .before .before .args .close .now)) (packed (c .before .before .before .before .before .before .before .before .args .w) (c .before .before .before .before .before .before .before .before .args .low .now)) (packed (c .before .before .before .before .before .before .before .before .args .w) (c .before .before .before .before .before .before .before .before .args .up .now)) (λ o. getD (c .before .before .before .before .before .before .before .before .args .rings .now) o 0) (c .before .before .before .before .before .before .before .before .args .r * c .before .before .before .before .before .before .before .before .args .w + n)) (c .before .before .before .loop .c) (c .before .before .before .loop .inv .2) (⊎-elim (λ (a, b, e). sym (b .ensures) ∙ e .left) (λ a. no-ring (c .before .before .before .before .before .before .before .before .args .w) (c .before .before .before .before .before .before .before .before .args .h) (c .before .before .before .before .before .before .before .before .args .t) (seen (c .before .before .before .before .before .before .before .before .args .w) (rowBytes (c .before .before .before .before .before .before .before .before .args .w) + 1) (c .before .before .before .before .before .before .before .before .args .close .now)) (packed (c .before .before .before .before .before .before .before .before .args .w) (c .before .before .before .before .before .before .before .before .args .low .now)) (packed (c .before .before .before .before .before .before .before .before .args .w) (c .before .before .before .before .before .before .before .before .args .up .now)) (λ o. getD (c .before .before .before .before .before .before .before .before .args .rings .now) o 0) (c .before .before .before .before .before .before .before .before .args .r * c .before .before .before .before .before .before .before .before .args .w + c .before .before .before .loop .c) (a .left)) (c .if1 .came)))
+loop-again c = (omega arith, omega arith, fails-more (c .before .before .before .before .before .before .before .before .args .a) (λ n. badBy (c .before .before .before .before .before .before .before .before .args .w) (c .before .before .before .before .before .before .before .before .args .h) (seen (c .before .before .before .before .before .before .before .before .args .w) (rowBytes (c .before .before .before .before .before .before .before .before .args .w) + 1) (c .before .before .before .before .before .before .before .before .args .close .now)) (packed (c .before .before .before .before .before .before .before .before .args .w) (c .before .before .before .before .before .before .before .before .args .low .now)) (packed (c .before .before .before .before .before .before .before .before .args .w) (c .before .before .before .before .before .before .before .before .args .up .now)) (λ o. getD (c .before .before .before .before .before .before .before .before .args .rings .now) o 0) (c .before .before .before .before .before .before .before .before .args .r * c .before .before .before .before .before .before .before .before .args .w + n)) (c .before .before .before .loop .c) (c .before .before .before .loop .inv .2) (⊎-elim (λ (a, b, e). sym (b .ensures) ∙ e .left) (λ a. no-ring (c .before .before .before .before .before .before .before .before .args .w) (c .before .before .before .before .before .before .before .before .args .h) (seen (c .before .before .before .before .before .before .before .before .args .w) (rowBytes (c .before .before .before .before .before .before .before .before .args .w) + 1) (c .before .before .before .before .before .before .before .before .args .close .now)) (packed (c .before .before .before .before .before .before .before .before .args .w) (c .before .before .before .before .before .before .before .before .args .low .now)) (packed (c .before .before .before .before .before .before .before .before .args .w) (c .before .before .before .before .before .before .before .before .args .up .now)) (λ o. getD (c .before .before .before .before .before .before .before .before .args .rings .now) o 0) (c .before .before .before .before .before .before .before .before .args .r * c .before .before .before .before .before .before .before .before .args .w + c .before .before .before .loop .c) (a .left)) (c .if1 .came)))
 
 returns-2 : tie.Need-returns-2 Inv-loop μ-loop
 returns-2 c = least-none (c .before .before .before .before .before .before .args .a) (c .before .before .before .before .before .before .args .to) _ (c .before .before .before .before .before .before .pre .0 .1 .1 .0) (λ y a l. c .before .loop .inv .2 y a (omega arith))

@@ -39,7 +39,7 @@ bad-by-requires : tie.Need-bad-by-requires
 bad-by-requires c κs = search needs
 
 returns-2 : tie.Need-returns-2
-returns-2 c = near-search (c .before .before .before .before .before .before .before .before .before .before .before .args .w) (c .before .before .before .before .before .before .before .before .before .before .before .args .h) (c .before .before .before .before .before .before .before .before .before .before .before .args .q) 0 (rowBytes (c .before .before .before .before .before .before .before .before .before .before .before .args .w) + 1) (packed (c .before .before .before .before .before .before .before .before .before .before .before .args .w) (c .before .before .before .before .before .before .before .before .before .before .before .args .low .now)) (packed (c .before .before .before .before .before .before .before .before .before .before .before .args .w) (c .before .before .before .before .before .before .before .before .before .before .before .args .up .now)) (λ o. getD (c .before .before .before .before .before .before .before .before .before .before .before .args .rings .now) o 0) _ (sizes-of (c .before .before .before .before .before .before .before .before .before .before .before .args .w) (c .before .before .before .before .before .before .before .before .before .before .before .args .h) (c .before .before .before .before .before .before .before .before .before .before .before .pre .0 .0 .0)) (c .bad-by .result) (c .bad-by .ensures) refl (c .before .before .before .near-of .ensures)
+returns-2 c = near-search (c .before .before .before .before .before .before .before .before .before .before .before .args .w) (c .before .before .before .before .before .before .before .before .before .before .before .args .h) (c .before .before .before .before .before .before .before .before .before .before .before .args .q) (rowBytes (c .before .before .before .before .before .before .before .before .before .before .before .args .w) + 1) (packed (c .before .before .before .before .before .before .before .before .before .before .before .args .w) (c .before .before .before .before .before .before .before .before .before .before .before .args .low .now)) (packed (c .before .before .before .before .before .before .before .before .before .before .before .args .w) (c .before .before .before .before .before .before .before .before .before .before .before .args .up .now)) (λ o. getD (c .before .before .before .before .before .before .before .before .before .before .before .args .rings .now) o 0) _ (sizes-of (c .before .before .before .before .before .before .before .before .before .before .before .args .w) (c .before .before .before .before .before .before .before .before .before .before .before .args .h) (c .before .before .before .before .before .before .before .before .before .before .before .pre .0 .0 .0)) (c .bad-by .result) (c .bad-by .ensures) (c .before .before .before .near-of .ensures)
 
 pub bad-plane-spec : {M : Type 1} → statement M
 bad-plane-spec =

@@ -21,10 +21,10 @@ use Rattle.chains.proofs.rings.bad_from.Reads as bad-from-reads
 use Rattle.chains.proofs.rings.quiet.Reads as quiet-reads
 
 abbrev Inv-loop : tie.InvT-loop
-Inv-loop low up rings close w h r t x c₀ c = (c ≤ w) × ((y : ℕ) → 0 ≤ y → y < c → badBy w h t (seen w (rowBytes w + 1) close) (packed w low) (packed w up) (λ o. getD rings o 0) (r * w + y) ≡ false)
+Inv-loop low up rings close w h r x c₀ c = (c ≤ w) × ((y : ℕ) → 0 ≤ y → y < c → badBy w h (seen w (rowBytes w + 1) close) (packed w low) (packed w up) (λ o. getD rings o 0) (r * w + y) ≡ false)
 
 abbrev μ-loop : tie.MeasureT-loop
-μ-loop low up rings close w h r t x c₀ c = w - c
+μ-loop low up rings close w h r x c₀ c = w - c
 
 mul-x : tie.Need-mul-x Inv-loop μ-loop
 mul-x c = omega (arith, stretch-in (c .before .before .before .before .args .r) (c .before .before .before .before .args .h) (c .before .before .before .before .args .w) (c .before .before .before .before .args .r * c .before .before .before .before .args .w) refl (c .before .before .before .before .pre .0 .1), area-fit _ _ (c .before .before .before .before .pre .0 .0))
@@ -33,7 +33,7 @@ quiet-requires : tie.Need-quiet-requires Inv-loop μ-loop
 quiet-requires c κs = omega (arith, stretch-in (c .before .before .before .before .args .r) (c .before .before .before .before .args .h) (c .before .before .before .before .args .w) (c .before .before .before .before .args .r * c .before .before .before .before .args .w) refl (c .before .before .before .before .pre .0 .1))
 
 returns : tie.Need-returns Inv-loop μ-loop
-returns c = least-none 0 (c .before .before .before .before .before .before .args .w) _ (omega arith) (quiet-row (c .before .before .before .before .before .before .args .w) (c .before .before .before .before .before .before .args .h) (c .before .before .before .before .before .before .args .t) (seen (c .before .before .before .before .before .before .args .w) (rowBytes (c .before .before .before .before .before .before .args .w) + 1) (c .before .before .before .before .before .before .args .close .now)) (packed (c .before .before .before .before .before .before .args .w) (c .before .before .before .before .before .before .args .low .now)) (packed (c .before .before .before .before .before .before .args .w) (c .before .before .before .before .before .before .args .up .now)) (c .before .before .before .before .before .before .args .rings .now) (c .before .before .before .before .before .before .args .r) (c .before .before .before .before .before .before .args .r * c .before .before .before .before .before .before .args .w) refl (c .before .quiet .ensures (c .if1 .taken)))
+returns c = least-none 0 (c .before .before .before .before .before .before .args .w) _ (omega arith) (quiet-row (c .before .before .before .before .before .before .args .w) (c .before .before .before .before .before .before .args .h) (seen (c .before .before .before .before .before .before .args .w) (rowBytes (c .before .before .before .before .before .before .args .w) + 1) (c .before .before .before .before .before .before .args .close .now)) (packed (c .before .before .before .before .before .before .args .w) (c .before .before .before .before .before .before .args .low .now)) (packed (c .before .before .before .before .before .before .args .w) (c .before .before .before .before .before .before .args .up .now)) (c .before .before .before .before .before .before .args .rings .now) (c .before .before .before .before .before .before .args .r) (c .before .before .before .before .before .before .args .r * c .before .before .before .before .before .before .args .w) refl (c .before .quiet .ensures (c .if1 .taken)))
 
 loop-holds : tie.Need-loop-holds Inv-loop μ-loop
 loop-holds c = (omega arith, λ y a l. absurd (omega arith))
@@ -66,7 +66,7 @@ loop-less : tie.Need-loop-less Inv-loop μ-loop
 loop-less c = search needs
 
 loop-again : tie.Need-loop-again Inv-loop μ-loop
-loop-again c = (omega arith, ⊎-elim (λ v. onward-more (c .before .before .before .loop .c) (c .before .before .before .loop .c + 8) (λ n. badBy (c .before .before .before .before .before .before .before .before .before .before .args .w) (c .before .before .before .before .before .before .before .before .before .before .args .h) (c .before .before .before .before .before .before .before .before .before .before .args .t) (seen (c .before .before .before .before .before .before .before .before .before .before .args .w) (rowBytes (c .before .before .before .before .before .before .before .before .before .before .args .w) + 1) (c .before .before .before .before .before .before .before .before .before .before .args .close .now)) (packed (c .before .before .before .before .before .before .before .before .before .before .args .w) (c .before .before .before .before .before .before .before .before .before .before .args .low .now)) (packed (c .before .before .before .before .before .before .before .before .before .before .args .w) (c .before .before .before .before .before .before .before .before .before .before .args .up .now)) (λ o. getD (c .before .before .before .before .before .before .before .before .before .before .args .rings .now) o 0) (c .before .before .before .before .before .before .before .before .before .before .args .r * c .before .before .before .before .before .before .before .before .before .before .args .w + n)) (v .1 .result) (c .before .before .before .loop .inv .1) (v .1 .ensures) (v .2 .left)) (λ v. quiet-eight (c .before .before .before .before .before .before .before .before .before .before .args .w) (c .before .before .before .before .before .before .before .before .before .before .args .h) (c .before .before .before .before .before .before .before .before .before .before .args .t) (seen (c .before .before .before .before .before .before .before .before .before .before .args .w) (rowBytes (c .before .before .before .before .before .before .before .before .before .before .args .w) + 1) (c .before .before .before .before .before .before .before .before .before .before .args .close .now)) (packed (c .before .before .before .before .before .before .before .before .before .before .args .w) (c .before .before .before .before .before .before .before .before .before .before .args .low .now)) (packed (c .before .before .before .before .before .before .before .before .before .before .args .w) (c .before .before .before .before .before .before .before .before .before .before .args .up .now)) (c .before .before .before .before .before .before .before .before .before .before .args .rings .now) (c .before .before .before .before .before .before .before .before .before .before .args .r) (c .before .before .before .loop .c) (c .before .quiet2 .ensures (not-false _ (v .left))) (c .before .before .before .loop .inv .1)) (c .if2 .came))
+loop-again c = (omega arith, ⊎-elim (λ v. onward-more (c .before .before .before .loop .c) (c .before .before .before .loop .c + 8) (λ n. badBy (c .before .before .before .before .before .before .before .before .before .before .args .w) (c .before .before .before .before .before .before .before .before .before .before .args .h) (seen (c .before .before .before .before .before .before .before .before .before .before .args .w) (rowBytes (c .before .before .before .before .before .before .before .before .before .before .args .w) + 1) (c .before .before .before .before .before .before .before .before .before .before .args .close .now)) (packed (c .before .before .before .before .before .before .before .before .before .before .args .w) (c .before .before .before .before .before .before .before .before .before .before .args .low .now)) (packed (c .before .before .before .before .before .before .before .before .before .before .args .w) (c .before .before .before .before .before .before .before .before .before .before .args .up .now)) (λ o. getD (c .before .before .before .before .before .before .before .before .before .before .args .rings .now) o 0) (c .before .before .before .before .before .before .before .before .before .before .args .r * c .before .before .before .before .before .before .before .before .before .before .args .w + n)) (v .1 .result) (c .before .before .before .loop .inv .1) (v .1 .ensures) (v .2 .left)) (λ v. quiet-eight (c .before .before .before .before .before .before .before .before .before .before .args .w) (c .before .before .before .before .before .before .before .before .before .before .args .h) (seen (c .before .before .before .before .before .before .before .before .before .before .args .w) (rowBytes (c .before .before .before .before .before .before .before .before .before .before .args .w) + 1) (c .before .before .before .before .before .before .before .before .before .before .args .close .now)) (packed (c .before .before .before .before .before .before .before .before .before .before .args .w) (c .before .before .before .before .before .before .before .before .before .before .args .low .now)) (packed (c .before .before .before .before .before .before .before .before .before .before .args .w) (c .before .before .before .before .before .before .before .before .before .before .args .up .now)) (c .before .before .before .before .before .before .before .before .before .before .args .rings .now) (c .before .before .before .before .before .before .before .before .before .before .args .r) (c .before .before .before .loop .c) (c .before .quiet2 .ensures (not-false _ (v .left))) (c .before .before .before .loop .inv .1)) (c .if2 .came))
 
 bad-from-requires-2 : tie.Need-bad-from-requires-2 Inv-loop μ-loop
 bad-from-requires-2 c κs = ((c .before .before .before .before .before .before .before .before .pre .0 .0, (c .before .before .before .before .before .before .before .before .pre .0 .1, (omega arith, omega arith))), (c .before .before .before .before .before .before .before .before .pre .1 .0, c .before .before .before .before .before .before .before .before .pre .1 .1))
