@@ -73,7 +73,7 @@ fn fill_rows(ring: &mut [u16], l: &[u8], v: u16, w: usize, h: usize, st: usize, 
 }
 
 // The row eight further, and h where there is none.
-fn eight_on(r: usize, h: usize) -> usize
+pub fn eight_on(r: usize, h: usize) -> usize
     requires { ⌜ (r < h) × (h ≤ 256) ⌝ }
     ensures { λ e. ⌜ (r < e) × (e ≤ h) ⌝ }
 {
