@@ -72,14 +72,6 @@ fn fill_rows(ring: &mut [u16], l: &[u8], v: u16, w: usize, h: usize, st: usize, 
     }
 }
 
-// The row eight further, and h where there is none.
-pub fn eight_on(r: usize, h: usize) -> usize
-    requires { ⌜ (r < h) × (h ≤ 256) ⌝ }
-    ensures { λ e. ⌜ (r < e) × (e ≤ h) ⌝ }
-{
-    if r + 8 < h { r + 8 } else { h }
-}
-
 // Writes v at the pixels of a plane, eight rows at a time: most have none.
 pub fn fill(ring: &mut [u16], l: &[u8], v: u16, w: usize, h: usize, st: usize)
     requires { ⌜ Sizes w h st ⌝ }
@@ -90,7 +82,7 @@ pub fn fill(ring: &mut [u16], l: &[u8], v: u16, w: usize, h: usize, st: usize)
     let mut r: usize = 0;
     while r < h {
         let y = r;
-        r = eight_on(y, h);
+        r = relax::levels::eight_on(y, h);
         if image::planes::any(l, (y + 1) * st, (r + 1) * st) {
             fill_rows(ring, l, v, w, h, st, y, r);
         }

@@ -4,7 +4,7 @@ use native.Mathlib.Omega.{arith}
 use borrow.Author.Needs.{needs}
 use lib.ListN.{length, getD}
 use Rattle.image.specs.Planes.{size-max, row-fits}
-use Rattle.grow.specs.LeastLaws.{plane-max}
+use Rattle.relax.specs.LeastLaws.{plane-max}
 use Rattle.grow.specs.StartLaws.{Filled, byteOnes, rowOnes, filled-none, filled-more, filled-skip, zero-byte, bit-room}
 use Rattle.grow.proofs.start.fill_row.Statement.{statement}
 use Rattle.grow.proofs.start.fill_row.Tie as tie
