@@ -1,18 +1,16 @@
 -- Laws of the searches in a row, row by row, and plane by plane.
 use mathlib.Core.Path.{_≡_, refl, sym, ap₂, _∙_}
-use mathlib.Core.Bool.{Bool, true, false, not, _&&_, _||_}
+use mathlib.Core.Bool.{Bool, false, _&&_}
 use mathlib.Core.List.{List}
 use Prim.Native.Nat.{ℕ, _+_, _-_, _*_, _/_, _%_, _<_, _≤_}
-use native.Mathlib.Nat.{mul-assoc, mul-le-mul, zero-add}
+use native.Mathlib.Nat.{mul-assoc, mul-le-mul}
 use native.Mathlib.Omega.{arith}
 use lib.Arith.{digits-lt}
 use lib.Bits.{bitAnd, bitOr, or-add-and, and-le-l, and-le-r}
-use lib.Dec.{eqb, ltb}
+use lib.Dec.{eqb}
 use lib.ListN.{getD, length, set}
-use borrow.Author.Tests.{ltb-true, ltb-false}
 use borrow.Author.Count.{below-more}
 use Rattle.rules.specs.Images.{rowBytes, bitAt}
-use Rattle.laws.specs.Tests.{split}
 use Rattle.laws.specs.Places.{digits-in}
 use Rattle.judge.specs.Search.{Least, bitIn, overlapHere, unheldHere, overlapIn, bareIn, bareHere, Hangs, Sized}
 use Rattle.judge.proofs.BitLaws.{byte-in, no-bit}

@@ -1,5 +1,4 @@
 use Rattle.judge.proofs.Quick.{digit-one, digit-none}
-use native.Mathlib.Omega.{arith}
 use borrow.Author.Needs.{needs}
 use Rattle.judge.proofs.eights.digit.Statement.{statement}
 use Rattle.judge.proofs.eights.digit.Tie as tie

@@ -1,6 +1,6 @@
 use mathlib.Core.Path.{_≡_}
-use Rattle.judge.proofs.Quick.{seed-byte, free-byte}
-use Rattle.judge.specs.Sound.{seedBits, freeBit}
+use Rattle.judge.proofs.Quick.{seed-byte}
+use Rattle.judge.specs.Sound.{seedBits}
 use Rattle.image.specs.Filling.{Filling, filling-none, filling-more, filling-all}
 use Prim.Native.Nat.{_≤_, _-_, _+_}
 use native.Mathlib.Omega.{arith}

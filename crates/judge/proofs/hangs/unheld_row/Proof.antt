@@ -1,6 +1,5 @@
 use borrow.Author.Tests.{not-true}
 use Rattle.judge.proofs.Rows.{no-bare}
-use native.Mathlib.Omega.{arith}
 use borrow.Author.Needs.{needs}
 use Rattle.judge.proofs.hangs.unheld_row.Statement.{statement}
 use Rattle.judge.proofs.hangs.unheld_row.Tie as tie

@@ -2,7 +2,6 @@ use Rattle.image.specs.Planes.{zero-ready}
 use Rattle.judge.proofs.Finding.{least-none}
 use Rattle.judge.proofs.Trust.{near-search}
 use Rattle.judge.proofs.Scratch.{sizes-of}
-use mathlib.Core.Path.{refl}
 use Rattle.rules.specs.Images.{rowBytes}
 use Rattle.image.specs.Rows.{packed}
 use lib.ListN.{getD}

@@ -2,10 +2,8 @@ use Rattle.judge.proofs.Trust.{no-rings}
 use Rattle.judge.proofs.Rows.{area-fit}
 use lib.ListN.{length-replicate}
 use Prim.Native.Nat.{ℕ}
-use Rattle.rules.specs.Images.{rowBytes}
 use Rattle.image.specs.Rows.{packed}
 use lib.ListN.{getD}
-use Prim.Native.Nat.{_+_}
 use native.Mathlib.Omega.{arith}
 use borrow.Author.Needs.{needs}
 use Rattle.judge.proofs.sound.sound.Statement.{statement}
