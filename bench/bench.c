@@ -2,14 +2,15 @@
  *
  * usage: bench WHAT INPUT W H N R TIMES
  *
- * WHAT is plan or check (the library), peer-plan or peer-check (the tuned peer), floor (what no planner can do without: zeroing the ring
- * planes and copying the part), or compare (library and peer must agree on every byte). check judges what was planned before, by the
- * peer, which is not part of the TIMES. INPUT is empty, solid, sphere, lattice, noise or spiral; R is the reach in pixels. Prints
- * the seconds by the clock for the TIMES. With TIMES 0 only the input is made, so what a call costs by any measure is the difference.
+ * WHAT is plan or check (the library), peer-plan or peer-check (the peer), tuned-plan or tuned-check (the peer that is tuned further),
+ * floor (what no planner can do without: zeroing the ring planes and copying the part), or compare (all three must agree on every byte).
+ * A check judges what was planned before, by the tuned peer, which is not part of the TIMES. INPUT is empty, solid, sphere, lattice, noise
+ * or spiral; R is the reach in pixels. Prints the seconds by the clock for the TIMES. With TIMES 0 only the input is made, so what a call
+ * costs by any measure is the difference.
  */
 #define _POSIX_C_SOURCE 199309L
 #include "inputs.h"
-#include "peer.h"
+#include "peers.h"
 
 #include <stdio.h>
 #include <stdlib.h>
@@ -24,8 +25,6 @@ struct job {
     uint8_t *part, *support;
     uint16_t *rings;
 };
-
-typedef void call(const struct job *job);
 
 static void die(const char *why)
 {
@@ -47,28 +46,16 @@ static void accept(kg_answer answer)
 
 /* ---- The calls ---- */
 
-static void plan(const struct job *j)
+static void plan_by(plan_call *call, const struct job *j)
 {
-    accept(kg_plan(j->s.w, j->s.h, j->s.n, PITCH, j->overhang, j->part, stack_bytes(j->s), j->support, stack_bytes(j->s), j->rings,
-                   ring_count(j->s)));
+    accept(call(j->s.w, j->s.h, j->s.n, PITCH, j->overhang, j->part, stack_bytes(j->s), j->support, stack_bytes(j->s), j->rings,
+                ring_count(j->s)));
 }
 
-static void peer_plan(const struct job *j)
+static void check_by(check_call *call, const struct job *j)
 {
-    accept(tuned_plan(j->s.w, j->s.h, j->s.n, PITCH, j->overhang, j->part, stack_bytes(j->s), j->support, stack_bytes(j->s), j->rings,
-                      ring_count(j->s)));
-}
-
-static void check(const struct job *j)
-{
-    accept(kg_check(j->s.w, j->s.h, j->s.n, PITCH, j->overhang, j->part, stack_bytes(j->s), j->support, stack_bytes(j->s), j->rings,
-                    ring_count(j->s)));
-}
-
-static void peer_check(const struct job *j)
-{
-    accept(tuned_check(j->s.w, j->s.h, j->s.n, PITCH, j->overhang, j->part, stack_bytes(j->s), j->support, stack_bytes(j->s), j->rings,
-                       ring_count(j->s)));
+    accept(call(j->s.w, j->s.h, j->s.n, PITCH, j->overhang, j->part, stack_bytes(j->s), j->support, stack_bytes(j->s), j->rings,
+                ring_count(j->s)));
 }
 
 static void least(const struct job *j)
@@ -76,6 +63,19 @@ static void least(const struct job *j)
     memset(j->rings, 0, ring_count(j->s) * sizeof *j->rings);
     memcpy(j->support, j->part, stack_bytes(j->s));
 }
+
+/* The library and its two peers. */
+static const struct {
+    const char *plan_name, *check_name;
+    plan_call *plan;
+    check_call *check;
+} planners[] = {
+    {"plan", "check", kg_plan, kg_check},
+    {"peer-plan", "peer-check", peer_plan, peer_check},
+    {"tuned-plan", "tuned-check", tuned_plan, tuned_check},
+};
+
+enum { PLANNERS = sizeof planners / sizeof *planners };
 
 /* ---- Comparing ---- */
 
@@ -86,20 +86,25 @@ static void spoil(const struct job *j)
     memset(j->rings, 0xA5, ring_count(j->s) * sizeof *j->rings);
 }
 
-static void compare(const struct job *j)
+static void compare_with(size_t k, const struct job *j)
 {
     struct job other = *j;
     other.support = room(stack_bytes(j->s), 1);
     other.rings = room(ring_count(j->s), sizeof *j->rings);
     spoil(&other);
-    plan(j);
-    peer_plan(&other);
+    plan_by(planners[k].plan, &other);
     if (memcmp(j->support, other.support, stack_bytes(j->s)) != 0) die("support differs");
     if (memcmp(j->rings, other.rings, ring_count(j->s) * sizeof *j->rings) != 0) die("rings differ");
-    check(j);
-    peer_check(j);
+    check_by(planners[k].check, j);
     free(other.support);
     free(other.rings);
+}
+
+static void compare(const struct job *j)
+{
+    plan_by(kg_plan, j);
+    check_by(kg_check, j);
+    for (size_t k = 1; k < PLANNERS; k++) compare_with(k, j);
 }
 
 /* ---- The command line ---- */
@@ -136,15 +141,24 @@ static double seconds(void)
     return (double)t.tv_sec + (double)t.tv_nsec / 1e9;
 }
 
-static call *find_call(const char *what)
+/* Runs what is named; false where nothing has that name. */
+static int run(const char *what, const struct job *j)
 {
-    static const struct { const char *name; call *run; } calls[] = {
-        {"plan", plan}, {"peer-plan", peer_plan}, {"check", check}, {"peer-check", peer_check}, {"floor", least},
-    };
-    for (size_t k = 0; k < sizeof calls / sizeof *calls; k++)
-        if (strcmp(calls[k].name, what) == 0) return calls[k].run;
-    die("no such thing to run");
-    return NULL;
+    if (strcmp(what, "floor") == 0) {
+        least(j);
+        return 1;
+    }
+    for (size_t k = 0; k < PLANNERS; k++) {
+        if (strcmp(what, planners[k].plan_name) == 0) {
+            plan_by(planners[k].plan, j);
+            return 1;
+        }
+        if (strcmp(what, planners[k].check_name) == 0) {
+            check_by(planners[k].check, j);
+            return 1;
+        }
+    }
+    return 0;
 }
 
 int main(int count, char **words)
@@ -156,10 +170,10 @@ int main(int count, char **words)
         compare(&j);
         return 0;
     }
-    call *run = find_call(words[1]);
-    if (run == check || run == peer_check) peer_plan(&j);
+    if (strstr(words[1], "check") != NULL) plan_by(tuned_plan, &j);
     double began = seconds();
-    for (size_t k = 0; k < times; k++) run(&j);
+    for (size_t k = 0; k < times; k++)
+        if (!run(words[1], &j)) die("no such thing to run");
     printf("%.6f\n", seconds() - began);
     return 0;
 }

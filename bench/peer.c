@@ -1,23 +1,21 @@
-/* The tuned peer. What makes it fast:
+/* The peer, which the limits are held against: planning and judging in plain C, written for speed with rows of bits. What makes it fast:
  *
- * - Stacks are passed over by bytes in flat loops, which the compiler turns into vector code. A pair of layers with no shadow or no
- *   seed ends there.
- * - In a pair that has both a row is four words of 64 pixels, column 0 being the highest bit of the first word, and only rows that have
- *   shadow are worked on.
- * - Rings 1 to 3 are given by whole rows. Further ones by breadth-first search with a queue of words: pixels of a word that get the same
- *   ring together spread together.
- * - A pixel of ring k has a seed within k rows and k columns, so it is near while 2 k k is at most R squared. Beyond that near pixels
- *   are found row by row, by widening, for the rows that still have shadow pixels without a ring.
- * - The checker tests that every ring lies in the shadow and has one to lean on; small rings are then near for the same reason. Only
- *   where a test fails it looks for the first place, pixel by pixel.
+ * - A row is four words of 64 pixels, column 0 being the highest bit of the first word. Shadow, seeds and support are found for a whole
+ *   row at a time, and each plane is turned into rows once.
+ * - Near pixels are found only for rows that have shadow, and only in pairs that have both shadow and seeds: each row of the lower part
+ *   is widened step by step, from the edge of the disc to its middle, and joined to the rows that it reaches.
+ * - Ring 1 is given by rows. Further rings come from a queue of pixels over a grid of marks, one byte for each near shadow pixel that has
+ *   no ring yet; the grid has a border, so a search has no edges to mind.
+ * - The checker passes over rows without rings. A ring beside the part is near wherever R is at least 2, so near pixels are found only
+ *   where some ring lies further away.
  */
-#include "peer.h"
+#include "peers.h"
 
 #include <string.h>
 
-enum { MOST = 256, WORDS = 4, REACH = 32 };
+enum { MOST = 256, WORDS = 4, REACH = 32, GRID = MOST + 2 };
 
-/* Flat loops are unrolled, which the compiler does not do by itself, and what works on rows is inlined, so that rows stay in registers. */
+/* What works on rows is inlined, so that rows stay in registers. Where a loop is unrolled, the compiler does not do it by itself. */
 #define INLINE static inline __attribute__((always_inline))
 
 /* ---- Rows ---- */
@@ -46,79 +44,58 @@ INLINE row row_but(row a, row b)
 
 INLINE int row_any(row a) { return (a.v[0] | a.v[1] | a.v[2] | a.v[3]) != 0; }
 
-static row short_row(const uint8_t *s, size_t bytes)
+INLINE uint64_t bit_of(size_t x) { return 1ull << (63 - x % 64); }
+
+INLINE row load_row(const uint8_t *s, size_t bytes)
 {
     row r = {{0}};
-    memcpy(&r, s, bytes);
-    return r;
-}
-
-/* The bytes of a row as they are; bytes beyond the row are 0. */
-INLINE row raw_row(const uint8_t *s, size_t bytes)
-{
-    row r;
-    if (bytes != sizeof r) return short_row(s, bytes);
-    for (int k = 0; k < WORDS; k++) memcpy(&r.v[k], s + 8 * k, 8);
-    return r;
-}
-
-INLINE void put_row(uint8_t *s, row r, size_t bytes)
-{
-    if (bytes != sizeof r)
-        memcpy(s, &r, bytes);
+    if (bytes == sizeof r)
+        for (int k = 0; k < WORDS; k++) {
+            memcpy(&r.v[k], s + 8 * k, 8);
+            r.v[k] = __builtin_bswap64(r.v[k]);
+        }
     else
-        for (int k = 0; k < WORDS; k++) memcpy(s + 8 * k, &r.v[k], 8);
-}
-
-/* From bytes in order to words whose highest bit comes first, and back. */
-INLINE row turned(row r)
-{
-    for (int k = 0; k < WORDS; k++) r.v[k] = __builtin_bswap64(r.v[k]);
+        for (size_t k = 0; k < bytes; k++) r.v[k / 8] |= (uint64_t)s[k] << (56 - 8 * (k % 8));
     return r;
 }
 
-INLINE row row_at(const uint8_t *s, size_t bytes) { return turned(raw_row(s, bytes)); }
+INLINE void store_row(uint8_t *s, row r, size_t bytes)
+{
+    if (bytes == sizeof r)
+        for (int k = 0; k < WORDS; k++) {
+            r.v[k] = __builtin_bswap64(r.v[k]);
+            memcpy(s + 8 * k, &r.v[k], 8);
+        }
+    else
+        for (size_t k = 0; k < bytes; k++) s[k] = (uint8_t)(r.v[k / 8] >> (56 - 8 * (k % 8)));
+}
 
-/* A plane of rows as words, four to a row. */
-INLINE uint64_t *words(row *plane) { return (uint64_t *)plane; }
-
-/* The row moved by 1 to 63 columns to both sides, joined with itself. */
-INLINE row spread(row a, int by)
+/* The row with each pixel one column to the left and to the right as well. */
+INLINE row spread(row a)
 {
     row r;
-    for (int k = 0; k < WORDS; k++) {
-        uint64_t before = k > 0 ? a.v[k - 1] << (64 - by) : 0, after = k + 1 < WORDS ? a.v[k + 1] >> (64 - by) : 0;
-        r.v[k] = a.v[k] | a.v[k] << by | a.v[k] >> by | before | after;
-    }
+    r.v[0] = a.v[0] | a.v[0] << 1 | a.v[1] >> 63 | a.v[0] >> 1;
+    r.v[1] = a.v[1] | a.v[1] << 1 | a.v[2] >> 63 | a.v[1] >> 1 | a.v[0] << 63;
+    r.v[2] = a.v[2] | a.v[2] << 1 | a.v[3] >> 63 | a.v[2] >> 1 | a.v[1] << 63;
+    r.v[3] = a.v[3] | a.v[3] << 1 | a.v[3] >> 1 | a.v[2] << 63;
     return r;
-}
-
-/* Every pixel of the row with `by` columns to both sides. After a step of k, gaps up to 2 k + 1 columns are closed. */
-INLINE row widened(row a, int by)
-{
-    if (by == 0) return a;
-    a = spread(a, 1);
-    for (int done = 1, step; done < by; done += step) {
-        step = done < by - done ? done : by - done;
-        a = spread(a, step);
-    }
-    return a;
 }
 
 /* ---- Settings and refusals ---- */
 
 struct stack {
-    size_t w, h, n, bytes, plane; /* bytes of a row and of a plane */
-    int reach, half[REACH + 1];   /* the disc runs half[d] columns to each side in a row d rows away */
-    unsigned surely;              /* rings up to this one are near by themselves */
+    size_t w, h, n, bytes, plane;  /* bytes of a row and of a plane */
+    size_t reach, half[REACH + 1]; /* the disc runs half[d] columns to each side in a row d rows away */
+    row wide;                      /* the W columns */
 };
 
 static int padding_set(const struct stack *s, const uint8_t *stack)
 {
-    unsigned pad = (unsigned)(s->bytes * 8 - s->w), found = 0;
+    unsigned pad = (1u << (s->bytes * 8 - s->w)) - 1;
     if (pad == 0) return 0;
-    for (size_t k = 0; k < s->n * s->h; k++) found |= stack[k * s->bytes + s->bytes - 1];
-    return (found & ((1u << pad) - 1)) != 0;
+    for (size_t k = 0; k < s->n * s->h; k++)
+        if ((stack[k * s->bytes + s->bytes - 1] & pad) != 0) return 1;
+    return 0;
 }
 
 static unsigned settle(struct stack *s, uint64_t w, uint64_t h, uint64_t n, uint32_t pitch, uint32_t overhang)
@@ -126,337 +103,189 @@ static unsigned settle(struct stack *s, uint64_t w, uint64_t h, uint64_t n, uint
     if (w < 1 || w > MOST || h < 1 || h > MOST || n < 1 || n > 512) return 1;
     if (pitch < 10 || pitch > 1000 || overhang > 10000) return 2;
     if (overhang / pitch > REACH) return 3;
-    *s = (struct stack){.w = w, .h = h, .n = n, .bytes = (w + 7) / 8, .plane = h * ((w + 7) / 8), .reach = (int)(overhang / pitch)};
-    for (int d = 0; d <= s->reach; d++)
+    *s = (struct stack){.w = w, .h = h, .n = n, .bytes = (w + 7) / 8, .plane = h * ((w + 7) / 8), .reach = overhang / pitch};
+    for (size_t d = 0; d <= s->reach; d++)
         while ((s->half[d] + 1) * (s->half[d] + 1) + d * d <= s->reach * s->reach) s->half[d]++;
-    while (2 * (s->surely + 1) * (s->surely + 1) <= (unsigned)(s->reach * s->reach)) s->surely++;
+    for (size_t x = 0; x < w; x++) s->wide.v[x / 64] |= bit_of(x);
     return 0;
 }
 
-static unsigned lengths(const struct stack *s, uint64_t part, uint64_t support, uint64_t rings)
+static unsigned refuse(const struct stack *s, const uint8_t *part, uint64_t part_len, uint64_t support_len, uint64_t rings_len)
 {
-    if (part != s->n * s->plane) return 4;
-    if (support != s->n * s->plane) return 5;
-    return rings != (s->n - 1) * s->w * s->h ? 6 : 0;
+    if (part_len != s->n * s->plane) return 4;
+    if (support_len != s->n * s->plane) return 5;
+    if (rings_len != (s->n - 1) * s->w * s->h) return 6;
+    return padding_set(s, part) ? 7 : 0;
 }
 
-/* ---- Rings of eight pixels ---- */
+/* ---- A pair of layers ---- */
 
-/* For each byte the rings of its pixels where the filled ones have ring 1 and the others none. */
-static uint16_t ones[256][8];
-
-static void make_ones(void)
-{
-    for (unsigned byte = 0; byte < 256; byte++)
-        for (unsigned x = 0; x < 8; x++) ones[byte][x] = (uint16_t)(byte >> (7 - x) & 1);
-}
-
-/* ---- A pair of layers with shadow and seeds ---- */
-
-/* Of a plane of rows, row y is entry y + 1; the entries before and after the image are empty. */
+/* The planes of a pair, by rows, and what the search for rings works on. */
 struct pair {
-    const struct stack *s;
-    const uint8_t *low, *up;
-    uint16_t rows[MOST]; /* the rows that have shadow */
-    size_t count;
-    row shadow[MOST + 2];        /* its other rows are empty */
-    row seeds[MOST + 2];         /* right in the rows that have shadow and in those beside them */
-    row lower[MOST + 2 * REACH]; /* the lower part, row y being entry y + REACH, once something was measured */
-    int measured;
+    row planes[2][MOST], shadow[MOST], seeds[MOST], free[MOST], near[MOST], got[MOST];
+    row *lower, *upper;         /* the two planes of the part */
+    uint8_t marks[GRID * GRID]; /* pixel (y, x) is mark (y + 1) * GRID + x + 1; all are 0 between searches */
+    uint32_t queue[MOST * MOST];
 };
 
-static void find_shadow(struct pair *p)
+static struct pair scratch;
+
+INLINE void swap_planes(struct pair *p)
 {
-    size_t bytes = p->s->bytes;
-    p->count = 0;
-    for (size_t y = 0; y < p->s->h; y++) {
-        row shadow = row_but(raw_row(p->up + y * bytes, bytes), raw_row(p->low + y * bytes, bytes));
-        if (!row_any(shadow)) continue;
-        p->shadow[y + 1] = turned(shadow);
-        p->rows[p->count++] = (uint16_t)y;
+    row *lower = p->lower;
+    p->lower = p->upper;
+    p->upper = lower;
+}
+
+/* The pixels of a plane and those beside them, in row y. */
+INLINE row around(const row *plane, size_t y, size_t h)
+{
+    row a = plane[y];
+    if (y > 0) a = row_or(a, plane[y - 1]);
+    if (y + 1 < h) a = row_or(a, plane[y + 1]);
+    return spread(a);
+}
+
+/* Joins what row y of the lower part reaches to the rows of near that have a pixel in `wanted`. */
+INLINE void reach_rows(struct pair *p, const struct stack *s, const row *wanted, size_t y)
+{
+    row r = p->lower[y];
+    size_t width = 0;
+    for (size_t d = s->reach + 1; d-- > 0;) {
+        for (; width < s->half[d]; width++) r = spread(r);
+        if (y >= d && row_any(wanted[y - d])) p->near[y - d] = row_or(p->near[y - d], r);
+        if (d > 0 && y + d < s->h && row_any(wanted[y + d])) p->near[y + d] = row_or(p->near[y + d], r);
     }
 }
 
-/* y is the first row that was not looked at yet. */
-static void find_seeds(struct pair *p)
+/* The near pixels of the rows that have a pixel in `wanted`. */
+static void find_near(struct pair *p, const struct stack *s, const row *wanted)
 {
-    size_t bytes = p->s->bytes, h = p->s->h, y = 0;
-    for (size_t k = 0; k < p->count; k++) {
-        if (y + 1 < p->rows[k]) y = p->rows[k] - 1u;
-        for (; y < h && y <= p->rows[k] + 1u; y++)
-            p->seeds[y + 1] = turned(row_and(raw_row(p->up + y * bytes, bytes), raw_row(p->low + y * bytes, bytes)));
+    size_t first = s->h, last = 0;
+    for (size_t y = 0; y < s->h; y++) {
+        p->near[y] = (row){{0}};
+        if (!row_any(wanted[y])) continue;
+        if (first == s->h) first = y;
+        last = y;
     }
-    p->seeds[h + 1] = (row){{0}};
+    if (first == s->h) return;
+    for (size_t y = first < s->reach ? 0 : first - s->reach; y < s->h && y <= last + s->reach; y++)
+        if (row_any(p->lower[y])) reach_rows(p, s, wanted, y);
+    for (size_t y = first; y <= last; y++) p->near[y] = row_and(p->near[y], s->wide);
 }
 
-static void open_pair(struct pair *p, const struct stack *s, const uint8_t *low, const uint8_t *up)
+/* ---- Rings ---- */
+
+INLINE void set_marks(uint8_t *marks, row r, uint8_t mark)
 {
-    p->s = s;
-    p->low = low;
-    p->up = up;
-    p->measured = 0;
-    find_shadow(p);
-    find_seeds(p);
-}
-
-/* Empties the rows of a plane that have shadow. */
-static void empty_rows(const struct pair *p, row *plane)
-{
-    for (size_t k = 0; k < p->count; k++) plane[p->rows[k] + 1] = (row){{0}};
-}
-
-/* The pixels beside those of a plane, in row y. */
-INLINE row beside(const row *plane, size_t y)
-{
-    return spread(row_or(row_or(plane[y], plane[y + 1]), plane[y + 2]), 1);
-}
-
-static void turn_lower(struct pair *p)
-{
-    const struct stack *s = p->s;
-    for (size_t y = 0; y < s->h; y++) p->lower[y + REACH] = row_at(p->low + y * s->bytes, s->bytes);
-    memset(p->lower + s->h + REACH, 0, REACH * sizeof(row));
-    p->measured = 1;
-}
-
-/* The near pixels of row y: what is further away by rows is joined later and so widened less. */
-static row near_row(struct pair *p, size_t y)
-{
-    const row *at = p->lower + y + REACH;
-    row a;
-    if (!p->measured) turn_lower(p);
-    a = *at;
-    for (int d = 1; d <= p->s->reach; d++) {
-        a = widened(a, p->s->half[d - 1] - p->s->half[d]);
-        a = row_or(a, row_or(at[-d], at[d]));
-    }
-    return a;
-}
-
-/* ---- Rings of a pair ---- */
-
-/* The pixels of one word that got a ring together. */
-struct front {
-    uint64_t bits;
-    uint16_t at, ring; /* the place of the word in a plane of rows; the ring */
-    uint32_t last;     /* the last pixel of the word in the ring plane */
-};
-
-struct growth {
-    struct pair pair; /* its shadow becomes what has no ring yet */
-    uint16_t *rings;
-    row got[MOST + 2], second[MOST + 2], third[MOST + 2]; /* the pixels with a ring; those of ring 2; those of ring 3 */
-    struct front queue[MOST * MOST];
-};
-
-/* Takes the far pixels from what has no ring yet. */
-static void drop_far(struct growth *g)
-{
-    row *left = g->pair.shadow;
-    for (size_t k = 0; k < g->pair.count; k++) {
-        size_t e = g->pair.rows[k] + 1u;
-        if (row_any(left[e])) left[e] = row_and(left[e], near_row(&g->pair, e - 1));
-    }
-}
-
-/* Writes ring v at the pixels of a word that ends at pixel `last`. */
-INLINE void write_ring(uint16_t *rings, size_t last, uint64_t bits, unsigned v)
-{
-    for (; bits != 0; bits &= bits - 1) rings[last - (size_t)__builtin_ctzll(bits)] = (uint16_t)v;
-}
-
-/* Writes ring 1 at the pixels of a whole word, by eights where they are all over it. */
-INLINE void write_ones(uint16_t *rings, size_t last, uint64_t bits)
-{
-    if ((bits & 0xffff) == 0 || (bits >> 16 & 0xffff) == 0 || (bits >> 32 & 0xffff) == 0 || bits >> 48 == 0)
-        write_ring(rings, last, bits, 1);
-    else
-        for (int b = 0; b < 8; b++) memcpy(rings + last - 63 + 8 * b, ones[bits >> (56 - 8 * b) & 255], sizeof *ones);
-}
-
-INLINE void write_row(struct growth *g, size_t y, row now, unsigned v)
-{
-    size_t w = g->pair.s->w;
     for (size_t k = 0; k < WORDS; k++)
-        if (v == 1 && 64 * k + 64 <= w)
-            write_ones(g->rings, y * w + 64 * k + 63, now.v[k]);
-        else
-            write_ring(g->rings, y * w + 64 * k + 63, now.v[k], v);
-}
-
-/* Gives ring v to what is left beside the pixels of `from`, by rows. Answers whether anything is left. */
-INLINE int ring_by_rows(struct growth *g, const row *from, row *to, unsigned v)
-{
-    row *left = g->pair.shadow;
-    int more = 0;
-    if (v == g->pair.s->surely + 1) drop_far(g);
-    for (size_t k = 0; k < g->pair.count; k++) {
-        size_t y = g->pair.rows[k];
-        if (v > 1 && !row_any(left[y + 1])) continue;
-        row now = row_and(beside(from, y), left[y + 1]);
-        left[y + 1] = row_but(left[y + 1], now);
-        more |= row_any(left[y + 1]);
-        write_row(g, y, now, v);
-        to[y + 1] = now;
-    }
-    return more;
-}
-
-/* What the search works on: planes as words. */
-struct reached {
-    uint64_t *left, *got;
-    uint16_t *rings;
-    struct front *tail; /* the end of the queue */
-    size_t w;
-};
-
-/* Gives ring v to what is left among `bits` of a word. */
-INLINE void take(struct reached *t, uint64_t bits, size_t at, size_t last, unsigned v)
-{
-    uint64_t now = t->left[at] & bits;
-    if (now == 0) return;
-    t->left[at] ^= now;
-    t->got[at] |= now;
-    *t->tail++ = (struct front){now, (uint16_t)at, (uint16_t)v, (uint32_t)last};
-    write_ring(t->rings, last, now, v);
-}
-
-/* The same of a word and those above and below it. */
-INLINE void take_rows(struct reached *t, uint64_t bits, size_t at, size_t last, unsigned v)
-{
-    take(t, bits, at - WORDS, last - t->w, v);
-    take(t, bits, at, last, v);
-    take(t, bits, at + WORDS, last + t->w, v);
-}
-
-/* Gives ring v to what is left beside the pixels of f. */
-INLINE void take_beside(struct reached *t, struct front f, unsigned v)
-{
-    const uint64_t leftmost = 1ull << 63, rightmost = 1;
-    take_rows(t, f.bits | f.bits << 1 | f.bits >> 1, f.at, f.last, v);
-    if ((f.bits & (leftmost | rightmost)) == 0) return;
-    if ((f.bits & leftmost) != 0 && f.at % WORDS != 0) take_rows(t, rightmost, f.at - 1u, f.last - 64u, v);
-    if ((f.bits & rightmost) != 0 && f.at % WORDS != WORDS - 1) take_rows(t, leftmost, f.at + 1u, f.last + 64u, v);
-}
-
-/* All rings after those of `from`, which have ring v. */
-static void search(struct growth *g, row *from, unsigned v)
-{
-    const struct stack *s = g->pair.s;
-    struct reached t = {words(g->pair.shadow), words(g->got), g->rings, g->queue, s->w};
-    for (size_t at = WORDS; at < (s->h + 1) * WORDS; at++)
-        if (words(from)[at] != 0)
-            *t.tail++ = (struct front){words(from)[at], (uint16_t)at, (uint16_t)v, (uint32_t)((at / WORDS - 1) * s->w + at % WORDS * 64 + 63)};
-    int far = v <= s->surely; /* whether what is left may be far */
-    for (struct front *f = g->queue; f < t.tail; f++) {
-        if (far && f->ring == s->surely) {
-            drop_far(g);
-            far = 0;
+        while (r.v[k] != 0) {
+            size_t x = (size_t)__builtin_clzll(r.v[k]);
+            r.v[k] &= ~bit_of(x);
+            marks[64 * k + x] = mark;
         }
-        take_beside(&t, *f, f->ring + 1u);
-    }
 }
 
-/* Joins pixels that got a ring with those that had one. */
-static void join(struct growth *g, const row *fresh)
+/* Ring 1: the free pixels beside seeds. Marks the others. Answers the end of the queue. */
+static size_t first_rings(struct pair *p, uint16_t *rings, size_t w, size_t h)
 {
-    for (size_t k = 0; k < g->pair.count; k++) {
-        size_t e = g->pair.rows[k] + 1u;
-        g->got[e] = row_or(g->got[e], fresh[e]);
+    size_t tail = 0;
+    for (size_t y = 0; y < h; y++) {
+        p->got[y] = (row){{0}};
+        if (!row_any(p->free[y])) continue;
+        row first = row_and(around(p->seeds, y, h), p->free[y]);
+        size_t at = (y + 1) * GRID + 1;
+        set_marks(p->marks + at, row_but(p->free[y], first), 1);
+        p->got[y] = first;
+        for (size_t k = 0; k < WORDS; k++)
+            while (first.v[k] != 0) {
+                size_t x = (size_t)__builtin_clzll(first.v[k]);
+                first.v[k] &= ~bit_of(x);
+                rings[y * w + 64 * k + x] = 1;
+                p->queue[tail++] = (uint32_t)(at + 64 * k + x);
+            }
     }
+    return tail;
 }
 
-/* The rings after ring 1. */
-static void grow_further(struct growth *g)
+/* The rings of a pair, breadth first: a marked pixel beside one of ring k gets ring k + 1 and stands in the queue itself. */
+static void grow(struct pair *p, uint16_t *rings, size_t w, size_t h)
 {
-    int more = ring_by_rows(g, g->got, g->second, 2);
-    join(g, g->second);
-    if (more) {
-        more = ring_by_rows(g, g->second, g->third, 3);
-        join(g, g->third);
-        if (more) search(g, g->third, 3);
-        empty_rows(&g->pair, g->third);
+    size_t tail = first_rings(p, rings, w, h);
+    for (size_t head = 0; head < tail; head++) {
+        size_t at = p->queue[head], y = at / GRID - 1, x = at % GRID - 1;
+        uint16_t v = (uint16_t)(rings[y * w + x] + 1);
+#pragma GCC unroll 3
+        for (size_t r = 0; r < 3; r++)
+#pragma GCC unroll 3
+            for (size_t c = 0; c < 3; c++) {
+                size_t to = at + r * GRID + c - GRID - 1;
+                if (p->marks[to] == 0) continue;
+                p->marks[to] = 0;
+                rings[(y + r - 1) * w + x + c - 1] = v;
+                p->got[y + r - 1].v[(x + c - 1) / 64] |= bit_of(x + c - 1);
+                p->queue[tail++] = (uint32_t)to;
+            }
     }
-    empty_rows(&g->pair, g->second);
-}
-
-/* All rings of an opened pair. Leaves the pixels that have one in got. */
-static void grow(struct growth *g)
-{
-    if (ring_by_rows(g, g->pair.seeds, g->got, 1)) grow_further(g);
+    for (size_t y = 0; y < h; y++) set_marks(p->marks + (y + 1) * GRID + 1, row_but(p->free[y], p->got[y]), 0);
 }
 
 /* ---- Planning ---- */
 
-/* The support of a layer where no pixel is excused. Answers whether the pair has a shadow. */
-static int carry(const uint8_t *restrict low, const uint8_t *restrict up, const uint8_t *restrict above, uint8_t *restrict support,
-                 size_t n)
+/* Turns the lower plane into rows, and finds shadow and seeds. Answers whether the pair has both. */
+INLINE int open_pair(struct pair *p, const struct stack *s, const uint8_t *low)
 {
-    uint8_t shadow = 0;
-#pragma GCC unroll 8
-    for (size_t k = 0; k < n; k++) {
-        shadow |= (uint8_t)(up[k] & ~low[k]);
-        support[k] = (uint8_t)((up[k] | above[k]) & ~low[k]);
+    int shadow = 0, seeds = 0;
+    for (size_t y = 0; y < s->h; y++) {
+        row lower = load_row(low + y * s->bytes, s->bytes), upper = p->upper[y];
+        p->lower[y] = lower;
+        p->shadow[y] = row_but(upper, lower);
+        p->seeds[y] = row_and(upper, lower);
+        shadow |= row_any(p->shadow[y]);
+        seeds |= row_any(p->seeds[y]);
     }
-    return shadow != 0;
+    return shadow && seeds;
 }
 
-/* Whether a pixel is in both planes. */
-static int meet(const uint8_t *a, const uint8_t *b, size_t n)
+/* The support of a layer from that above it. */
+INLINE void write_support(struct pair *p, const struct stack *s, int grown, const uint8_t *above, uint8_t *below)
 {
-    size_t k = 0;
-    for (; k + 8 <= n; k += 8) {
-        uint64_t x, y;
-        memcpy(&x, a + k, 8);
-        memcpy(&y, b + k, 8);
-        if ((x & y) != 0) return 1;
-    }
-    for (; k < n; k++)
-        if ((a[k] & b[k]) != 0) return 1;
-    return 0;
-}
-
-/* Takes the excused pixels from the support. */
-static void excuse(struct growth *g, uint8_t *support)
-{
-    size_t bytes = g->pair.s->bytes;
-    for (size_t k = 0; k < g->pair.count; k++) {
-        size_t y = g->pair.rows[k];
-        uint8_t *at = support + y * bytes;
-        put_row(at, row_but(raw_row(at, bytes), turned(g->got[y + 1])), bytes);
+    for (size_t y = 0; y < s->h; y++) {
+        row open = grown ? row_but(p->shadow[y], p->got[y]) : p->shadow[y], up = load_row(above + y * s->bytes, s->bytes);
+        store_row(below + y * s->bytes, row_or(open, row_but(up, p->lower[y])), s->bytes);
     }
 }
 
-static void plan(const struct stack *s, const uint8_t *part, uint8_t *support, uint16_t *rings)
+static void plan(struct pair *p, const struct stack *s, const uint8_t *part, uint8_t *support, uint16_t *rings)
 {
-    static struct growth g;
-    make_ones();
+    p->lower = p->planes[0];
+    p->upper = p->planes[1];
     memset(support + (s->n - 1) * s->plane, 0, s->plane);
+    for (size_t y = 0; y < s->h; y++) p->upper[y] = load_row(part + (s->n - 1) * s->plane + y * s->bytes, s->bytes);
     for (size_t i = s->n - 1; i-- > 0;) {
-        const uint8_t *low = part + i * s->plane, *up = low + s->plane;
-        uint8_t *below = support + i * s->plane;
-        g.rings = rings + i * s->w * s->h;
-        memset(g.rings, 0, s->w * s->h * sizeof *g.rings);
-        if (!carry(low, up, below + s->plane, below, s->plane) || s->reach == 0 || !meet(low, up, s->plane)) continue;
-        open_pair(&g.pair, s, low, up);
-        grow(&g);
-        excuse(&g, below);
-        empty_rows(&g.pair, g.got);
-        empty_rows(&g.pair, g.pair.shadow);
+        uint16_t *plane = rings + i * s->w * s->h;
+        memset(plane, 0, s->w * s->h * sizeof *plane);
+        int grown = open_pair(p, s, part + i * s->plane) && s->reach > 0;
+        if (grown) {
+            find_near(p, s, p->shadow);
+            for (size_t y = 0; y < s->h; y++) p->free[y] = row_and(p->near[y], p->shadow[y]);
+            grow(p, plane, s->w, s->h);
+        }
+        write_support(p, s, grown, support + (i + 1) * s->plane, support + i * s->plane);
+        swap_planes(p);
     }
 }
 
-kg_answer tuned_plan(uint64_t w, uint64_t h, uint64_t n, uint32_t pitch, uint32_t overhang,
-                     const uint8_t *part, uint64_t part_len,
-                     uint8_t *support, uint64_t support_len,
-                     uint16_t *rings, uint64_t rings_len)
+kg_answer peer_plan(uint64_t w, uint64_t h, uint64_t n, uint32_t pitch, uint32_t overhang,
+                    const uint8_t *part, uint64_t part_len,
+                    uint8_t *support, uint64_t support_len,
+                    uint16_t *rings, uint64_t rings_len)
 {
     struct stack s;
     unsigned number = settle(&s, w, h, n, pitch, overhang);
-    if (number == 0) number = lengths(&s, part_len, support_len, rings_len);
+    if (number == 0) number = refuse(&s, part, part_len, support_len, rings_len);
     if (number != 0) return number;
-    if (padding_set(&s, part)) return 7;
-    plan(&s, part, support, rings);
+    plan(&scratch, &s, part, support, rings);
     return 0;
 }
 
@@ -469,221 +298,123 @@ static kg_answer told(unsigned number, size_t layer, size_t y, size_t x)
 
 static kg_answer overlap(const struct stack *s, const uint8_t *part, const uint8_t *support)
 {
-    uint8_t found = 0;
-#pragma GCC unroll 8
-    for (size_t k = 0; k < s->n * s->plane; k++) found |= (uint8_t)(part[k] & support[k]);
-    if (found == 0) return 0;
-    size_t k = 0;
-    while ((part[k] & support[k]) == 0) k++;
-    size_t x = k % s->bytes * 8 + (size_t)__builtin_clz((unsigned)(part[k] & support[k]) << 24);
-    return told(9, k / s->plane, k / s->bytes % s->h, x);
+    for (size_t k = 0; k < s->n * s->plane; k++)
+        if ((part[k] & support[k]) != 0) {
+            size_t x = k % s->bytes * 8 + (size_t)__builtin_clz((unsigned)(part[k] & support[k]) << 24);
+            return told(9, k / s->plane, k / s->bytes % s->h, x);
+        }
+    return 0;
 }
 
-/* Whether the pair has a shadow; and whether a support pixel is unheld. */
-static int look(const uint8_t *low, const uint8_t *up, const uint8_t *below, const uint8_t *above, size_t n, int *hangs)
+/* The pixels of a row that have a ring. */
+INLINE row ringed(const uint16_t *rings, size_t w)
 {
-    uint8_t shadow = 0, hanging = 0;
-#pragma GCC unroll 8
-    for (size_t k = 0; k < n; k++) {
-        shadow |= (uint8_t)(up[k] & ~low[k]);
-        hanging |= (uint8_t)(above[k] & ~(low[k] | below[k]));
-    }
-    *hangs = hanging != 0;
-    return shadow != 0;
-}
-
-/* Whether none of n pixels has a ring. */
-INLINE int no_ring(const uint16_t *rings, size_t n)
-{
+    row got = {{0}};
     uint16_t all = 0;
-#pragma GCC unroll 8
-    for (size_t k = 0; k < n; k++) all |= rings[k];
-    return all == 0;
+#pragma GCC unroll 2
+    for (size_t x = 0; x < w; x++) all |= rings[x];
+    if (all != 0)
+        for (size_t x = 0; x < w; x++)
+            if (rings[x] != 0) got.v[x / 64] |= bit_of(x);
+    return got;
 }
 
-struct judged {
-    struct pair pair;
-    const uint8_t *below, *above;
-    const uint16_t *rings;
-    int hangs; /* whether a pixel is unheld */
-    row near[MOST];
-    uint8_t known[MOST]; /* the rows of near that were measured */
-};
-
-/* The near pixels of row y, found once. */
-static const row *near_once(struct judged *j, size_t y)
+/* Turns the upper plane into rows, and finds shadow, seeds and the pixels with a ring. Answers whether there is one. */
+INLINE int open_judged(struct pair *p, const struct stack *s, const uint8_t *up, const uint16_t *rings)
 {
-    if (!j->known[y]) {
-        j->known[y] = 1;
-        j->near[y] = near_row(&j->pair, y);
+    int some = 0;
+    for (size_t y = 0; y < s->h; y++) {
+        row upper = load_row(up + y * s->bytes, s->bytes);
+        p->upper[y] = upper;
+        p->shadow[y] = row_but(upper, p->lower[y]);
+        p->seeds[y] = row_and(upper, p->lower[y]);
+        p->got[y] = ringed(rings + y * s->w, s->w);
+        some |= row_any(p->got[y]);
     }
-    return &j->near[y];
+    return some;
 }
 
-static int at_edge(const struct judged *j, size_t y, size_t x)
+/* Finds the near pixels as far as rings need them. A ring beside the lower part is near where R is at least 2. */
+INLINE void find_near_rings(struct pair *p, const struct stack *s)
 {
-    return y == 0 || x == 0 || y + 1 == j->pair.s->h || x + 1 == j->pair.s->w;
+    int far = s->reach < 2;
+    for (size_t y = 0; y < s->h && !far; y++)
+        far = row_any(p->got[y]) && row_any(row_but(p->got[y], around(p->lower, y, s->h)));
+    if (far)
+        find_near(p, s, p->got);
+    else
+        memcpy(p->near, p->got, s->h * sizeof *p->near);
 }
 
-/* Whether a neighbour has ring v; the pixel itself has another. */
-static int leans(const struct judged *j, size_t y, size_t x, unsigned v)
+/* Whether a neighbour has ring v - 1, and is a seed where that is 0. */
+INLINE int leans(const struct pair *p, const struct stack *s, const uint16_t *rings, size_t y, size_t x, unsigned v)
 {
-    size_t w = j->pair.s->w, h = j->pair.s->h;
-    const uint16_t *p = j->rings + y * w + x, *up = p - w, *down = p + w;
-    if (!at_edge(j, y, x))
-        return p[-1] == v || p[1] == v || up[0] == v || down[0] == v || up[-1] == v || up[1] == v || down[-1] == v || down[1] == v;
-    for (size_t r = y > 0 ? y - 1 : y; r < h && r <= y + 1; r++)
-        for (size_t c = x > 0 ? x - 1 : x; c < w && c <= x + 1; c++)
-            if (j->rings[r * w + c] == v) return 1;
+    size_t top = y > 0 ? y - 1 : 0, bottom = y + 1 < s->h ? y + 1 : y, left = x > 0 ? x - 1 : 0, right = x + 1 < s->w ? x + 1 : x;
+    for (size_t r = top; r <= bottom; r++)
+        for (size_t c = left; c <= right; c++) {
+            if (r == y && c == x) continue;
+            if (v == 1 ? (p->seeds[r].v[c / 64] & bit_of(c)) != 0 && rings[r * s->w + c] == 0 : rings[r * s->w + c] == v - 1) return 1;
+        }
     return 0;
 }
 
-/* ---- Rings that are good ---- */
-
-/* A word of a row with shadow: its rings, its pixels in the shadow and those of them beside seeds; and its pixels that have a ring. */
-struct word {
-    size_t y, x;
-    const uint16_t *rings;
-    uint64_t shadow, first, got;
-};
-
-/* Whether n pixels from the word's column c on have good rings: each in the shadow, with one to lean on, and near where that does not
- * follow. */
-static int good_pixels(struct judged *j, struct word *t, size_t c, size_t n)
+/* The first bad ring of a pair. */
+static kg_answer bad_ring(struct pair *p, const struct stack *s, const uint16_t *rings, size_t layer)
 {
-    for (size_t end = c + n; c < end; c++) {
-        unsigned v = t->rings[c];
-        uint64_t bit = 1ull << (63 - c);
-        if (v == 0) continue;
-        if ((t->shadow & bit) == 0 || (v == 1 ? (t->first & bit) == 0 : !leans(j, t->y, t->x + c, v - 1))) return 0;
-        if (v > j->pair.s->surely && (near_once(j, t->y)->v[t->x / 64] & bit) == 0) return 0;
-        t->got |= bit;
+    find_near_rings(p, s);
+    for (size_t y = 0; y < s->h; y++) {
+        row left = p->got[y];
+        for (size_t k = 0; k < WORDS; k++)
+            while (left.v[k] != 0) {
+                size_t x = (size_t)__builtin_clzll(left.v[k]);
+                uint64_t bit = bit_of(x);
+                left.v[k] &= ~bit;
+                x += 64 * k;
+                int good = (p->shadow[y].v[k] & bit) != 0 && s->reach > 0 && (p->near[y].v[k] & bit) != 0;
+                if (!good || !leans(p, s, rings, y, x, rings[y * s->w + x])) return told(10, layer, y, x);
+            }
     }
-    return 1;
-}
-
-/* The same of 64 pixels. Eight of them at a time are passed over whose rings are 1 beside seeds and else 0. */
-INLINE int good_word(struct judged *j, struct word *t)
-{
-    t->got = t->first;
-    for (size_t b = 0; b < 8; b++) {
-        const uint16_t *usual = ones[t->first >> (56 - 8 * b) & 255];
-        if (memcmp(t->rings + 8 * b, usual, sizeof *ones) == 0) continue;
-        t->got &= ~(255ull << (56 - 8 * b));
-        if (!good_pixels(j, t, 8 * b, 8)) return 0;
-    }
-    return 1;
-}
-
-/* Whether a row with shadow has good rings. Notes whether a part pixel of it is unheld. */
-static int good_row(struct judged *j, size_t y)
-{
-    const struct stack *s = j->pair.s;
-    row shadow = j->pair.shadow[y + 1], first = row_and(beside(j->pair.seeds, y), shadow);
-    row below = row_at(j->below + y * s->bytes, s->bytes);
-    if (s->surely == 0 && row_any(first)) first = row_and(first, *near_once(j, y));
-    for (size_t x = 0, k = 0; x < s->w; x += 64, k++) {
-        struct word t = {y, x, j->rings + y * s->w + x, shadow.v[k], first.v[k], 0};
-        int good = x + 64 > s->w ? good_pixels(j, &t, 0, s->w - x) : t.shadow == 0 ? no_ring(t.rings, 64) : good_word(j, &t);
-        if (!good) return 0;
-        j->hangs |= (t.shadow & ~below.v[k] & ~t.got) != 0;
-    }
-    return 1;
-}
-
-static int good_rings(struct judged *j)
-{
-    size_t w = j->pair.s->w, next = 0;
-    for (size_t k = 0; k < j->pair.count; k++) {
-        size_t y = j->pair.rows[k];
-        if (!no_ring(j->rings + next * w, (y - next) * w) || !good_row(j, y)) return 0;
-        next = y + 1;
-    }
-    return no_ring(j->rings + next * w, (j->pair.s->h - next) * w);
-}
-
-/* ---- First places, pixel by pixel ---- */
-
-static int filled(const struct stack *s, const uint8_t *plane, size_t y, size_t x)
-{
-    return plane[y * s->bytes + x / 8] >> (7 - x % 8) & 1;
-}
-
-/* Whether a neighbour is a seed, with ring 0 as a seed must have. */
-static int leans_on_seed(const struct judged *j, size_t y, size_t x)
-{
-    const struct stack *s = j->pair.s;
-    for (size_t r = y > 0 ? y - 1 : y; r < s->h && r <= y + 1; r++)
-        for (size_t c = x > 0 ? x - 1 : x; c < s->w && c <= x + 1; c++)
-            if (j->rings[r * s->w + c] == 0 && filled(s, j->pair.low, r, c) && filled(s, j->pair.up, r, c)) return 1;
     return 0;
 }
 
-static int is_bad(struct judged *j, size_t y, size_t x)
+/* The first unheld pixel of a pair whose rings are good. */
+INLINE kg_answer unheld(const struct pair *p, const struct stack *s, const uint8_t *below, const uint8_t *above, size_t layer)
 {
-    const struct stack *s = j->pair.s;
-    unsigned v = j->rings[y * s->w + x];
-    if (v == 0) return 0;
-    if (!filled(s, j->pair.up, y, x) || filled(s, j->pair.low, y, x)) return 1;
-    if ((near_once(j, y)->v[x / 64] >> (63 - x % 64) & 1) == 0) return 1;
-    return v == 1 ? !leans_on_seed(j, y, x) : !leans(j, y, x, v - 1);
-}
-
-static int is_unheld(struct judged *j, size_t y, size_t x)
-{
-    const struct stack *s = j->pair.s;
-    int above = filled(s, j->pair.up, y, x) || filled(s, j->above, y, x);
-    return above && !filled(s, j->pair.low, y, x) && !filled(s, j->below, y, x) && j->rings[y * s->w + x] == 0;
-}
-
-static kg_answer first_place(struct judged *j, unsigned number, size_t layer)
-{
-    for (size_t y = 0; y < j->pair.s->h; y++)
-        for (size_t x = 0; x < j->pair.s->w; x++)
-            if (number == 10 ? is_bad(j, y, x) : is_unheld(j, y, x)) return told(number, layer, y, x);
+    for (size_t y = 0; y < s->h; y++) {
+        row need = row_or(p->upper[y], load_row(above + y * s->bytes, s->bytes));
+        row held = row_or(row_or(p->lower[y], load_row(below + y * s->bytes, s->bytes)), p->got[y]), bad = row_but(need, held);
+        for (size_t k = 0; row_any(bad); k++)
+            if (bad.v[k] != 0) return told(11, layer, y, 64 * k + (size_t)__builtin_clzll(bad.v[k]));
+    }
     return 0;
 }
 
-/* ---- A stack ---- */
-
-/* The first bad ring of the pair, or else what was found before, or else its first unheld pixel. */
-static kg_answer judge_pair(struct judged *j, size_t layer, kg_answer before)
+static kg_answer judge(struct pair *p, const struct stack *s, const uint8_t *part, const uint8_t *support, const uint16_t *rings)
 {
-    const struct stack *s = j->pair.s;
-    memset(j->known, 0, s->h);
-    int good = good_rings(j);
-    kg_answer found = !good ? first_place(j, 10, layer) : j->hangs && before == 0 ? first_place(j, 11, layer) : before;
-    empty_rows(&j->pair, j->pair.shadow);
-    return found;
-}
-
-static kg_answer judge(const struct stack *s, const uint8_t *part, const uint8_t *support, const uint16_t *rings)
-{
-    static struct judged j;
-    make_ones();
-    kg_answer found = overlap(s, part, support);
-    for (size_t i = 0; i + 1 < s->n && kg_number(found) != 9 && kg_number(found) != 10; i++) {
-        const uint8_t *low = part + i * s->plane, *up = low + s->plane;
-        j.below = support + i * s->plane;
-        j.above = j.below + s->plane;
-        j.rings = rings + i * s->w * s->h;
-        if (!look(low, up, j.below, j.above, s->plane, &j.hangs) && !j.hangs && no_ring(j.rings, s->w * s->h)) continue;
-        open_pair(&j.pair, s, low, up);
-        found = judge_pair(&j, i + 1, found);
+    kg_answer found = overlap(s, part, support), bad;
+    if (found != 0) return found;
+    p->lower = p->planes[0];
+    p->upper = p->planes[1];
+    for (size_t y = 0; y < s->h; y++) p->lower[y] = load_row(part + y * s->bytes, s->bytes);
+    for (size_t i = 0; i + 1 < s->n; i++) {
+        const uint16_t *plane = rings + i * s->w * s->h;
+        const uint8_t *below = support + i * s->plane;
+        if (open_judged(p, s, part + (i + 1) * s->plane, plane) && (bad = bad_ring(p, s, plane, i + 1)) != 0) return bad;
+        if (found == 0) found = unheld(p, s, below, below + s->plane, i + 1);
+        swap_planes(p);
     }
     return found;
 }
 
-kg_answer tuned_check(uint64_t w, uint64_t h, uint64_t n, uint32_t pitch, uint32_t overhang,
-                      const uint8_t *part, uint64_t part_len,
-                      const uint8_t *support, uint64_t support_len,
-                      const uint16_t *rings, uint64_t rings_len)
+kg_answer peer_check(uint64_t w, uint64_t h, uint64_t n, uint32_t pitch, uint32_t overhang,
+                     const uint8_t *part, uint64_t part_len,
+                     const uint8_t *support, uint64_t support_len,
+                     const uint16_t *rings, uint64_t rings_len)
 {
     struct stack s;
     unsigned number = settle(&s, w, h, n, pitch, overhang);
-    if (number == 0) number = lengths(&s, part_len, support_len, rings_len);
+    if (number == 0) number = refuse(&s, part, part_len, support_len, rings_len);
     if (number != 0) return number;
-    if (padding_set(&s, part)) return 7;
     if (padding_set(&s, support)) return 8;
-    return judge(&s, part, support, rings);
+    return judge(&scratch, &s, part, support, rings);
 }

@@ -1,6 +1,7 @@
 -- What the contracts cite.
 pub mod Rings
 pub mod Marks
+pub mod Fronts
 -- Laws about it.
 pub mod LeastLaws
 pub mod Relaxing
@@ -9,3 +10,5 @@ pub mod VisitLaws
 pub mod SweepLaws
 pub mod StartLaws
 pub mod FreeLaws
+pub mod WaveLaws
+pub mod EndLaws

@@ -63,10 +63,10 @@ pub record Kit (w h st : ℕ) (ring marks got cand : List ℕ) : Type 0 where
   pub cand-framed : Framed w h st cand
   pub marks-in : (j : ℕ) → j < (h + 2) * st * 8 → bitOf marks j ≡ true → bitOf cand j ≡ true
 
-pub record Grows (w h st : ℕ) (free seed : Plane) (ring marks got cand : List ℕ) : Type 0 where
+pub record Grows (w h st : ℕ) (free seed known : Plane) (ring marks got cand : List ℕ) : Type 0 where
   pub frame : Frame w h free seed
-  pub going : Going w h free seed ring (seen w st marks)
-  pub cands : Scratch w h st (later (h * w) (touch w) free seed) cand
+  pub going : Going w h free seed known ring (seen w st marks)
+  pub cands : Scratch w h st (later free known) cand
   pub gots : Scratch w h st (λ p. ltb 0 (getD ring p 0)) got
 
 -- from ring and marks to ring' and marks', with the answer d whether a ring fell
@@ -77,4 +77,4 @@ pub record Moved (d : Bool) (ring' ring marks' marks : List ℕ) : Type 0 where
 
 -- every growing that went on goes on
 abbrev pub Onward : ℕ → ℕ → ℕ → List ℕ → List ℕ → List ℕ → List ℕ → List ℕ → List ℕ → List ℕ → Type 0
-Onward w h st ring' ring marks' marks got' got cand = (free : Plane) → (seed : Plane) → Grows w h st free seed ring marks got cand → Grows w h st free seed ring' marks' got' cand
+Onward w h st ring' ring marks' marks got' got cand = (free seed known : Plane) → Grows w h st free seed known ring marks got cand → Grows w h st free seed known ring' marks' got' cand

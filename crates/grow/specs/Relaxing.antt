@@ -13,8 +13,9 @@ use Rattle.rules.specs.Demands.{onward, start, Joined}
 use Rattle.rules.specs.Images.{Plane}
 use Rattle.rules.specs.Planning.{touching, grown, touch}
 use Rattle.laws.specs.Growing.{ring-joined, ring-fewest, length-grown}
-use Rattle.laws.specs.Tests.{split, clash, and-l, and-r, and-in, not-in, not-out, some-in, some-out}
-use Rattle.grow.specs.Rings.{level, sumBy, one, ringOne, later, Frame, Going}
+use Rattle.laws.specs.Tests.{split, clash, and-l, and-r, and-in, not-in, not-out, some-in}
+use Rattle.laws.specs.Waves.{joined-free}
+use Rattle.grow.specs.Rings.{level, sumBy, one, later, Frame, Going}
 
 -- ---- sums over a list
 
@@ -63,44 +64,34 @@ level-min : (v : ℕ) → 0 < level v
 level-min zero = omega arith
 level-min (suc v) = omega arith
 
-module _ (w h : ℕ) (free seed : Plane) where
+module _ (w h : ℕ) (free seed known : Plane) where
   abbrev Path : ℕ → ℕ → Type 0
   Path = Joined (h * w) (touch w) free seed
-
-  path-free : {k p : ℕ} → Joined (h * w) (touch w) free seed k p → free p ≡ true
-  path-free (start f l t s) = f
-  path-free (onward f l t r) = f
 
   seed-of : {k p : ℕ} → Joined (h * w) (touch w) free seed k p → (o : ℕ) × (o < h * w) × (seed o ≡ true)
   seed-of (start {o = o} f l t s) = (o, l, s)
   seed-of (onward f l t r) = seed-of r
 
-  one-in : (p o : ℕ) → free p ≡ true → o < h * w → touch w p o ≡ true → seed o ≡ true → ringOne (h * w) (touch w) free seed p ≡ true
-  unfolding ringOne touching
-  one-in p o f l t s = and-in (free p) _ f (some-in (h * w) (λ o. touch w p o && seed o) o l (and-in (touch w p o) _ t s))
+  touching-by : (p o : ℕ) → o < h * w → touch w p o ≡ true → seed o ≡ true → touching (h * w) (touch w) seed p ≡ true
+  unfolding touching
+  touching-by p o l t s = some-in (h * w) (λ o. touch w p o && seed o) o l (and-in (touch w p o) _ t s)
 
-  pub one-path : (p : ℕ) → ringOne (h * w) (touch w) free seed p ≡ true → Joined (h * w) (touch w) free seed 1 p
-  unfolding ringOne touching
-  one-path p e =
-      let (o, l, u) = some-out (h * w) (λ o. touch w p o && seed o) (and-r (free p) _ e) in
-      start (and-l (free p) _ e) l (and-l (touch w p o) _ u) (and-r (touch w p o) _ u)
-
-  later-split : (p : ℕ) → later (h * w) (touch w) free seed p ≡ true → (free p ≡ true) × (ringOne (h * w) (touch w) free seed p ≡ false)
+  later-split : (p : ℕ) → later free known p ≡ true → (free p ≡ true) × (known p ≡ false)
   unfolding later
-  later-split p e = (and-l (free p) _ e, not-out (ringOne (h * w) (touch w) free seed p) (and-r (free p) _ e))
+  later-split p e = (and-l (free p) _ e, not-out (known p) (and-r (free p) _ e))
 
-  not-later : (p : ℕ) → free p ≡ true → later (h * w) (touch w) free seed p ≡ false → ringOne (h * w) (touch w) free seed p ≡ true
+  not-later : (p : ℕ) → free p ≡ true → later free known p ≡ false → known p ≡ true
   unfolding later
-  not-later p f e = split (ringOne (h * w) (touch w) free seed p) (λ t. t) (λ t. clash (and-in (free p) _ f (not-in _ t)) e)
+  not-later p f e = split (known p) (λ t. t) (λ t. clash (and-in (free p) _ f (not-in _ t)) e)
 
-  module _ (fr : Frame w h free seed) (l : List ℕ) (M : Plane) (G : Going w h free seed l M) where
+  module _ (fr : Frame w h free seed) (l : List ℕ) (M : Plane) (G : Going w h free seed known l M) where
     seed-none : (p : ℕ) → p < h * w → seed p ≡ true → getD l p 0 ≡ 0
-    seed-none p lp e = ⊎-elim (λ z. z) (λ z. absurd (fr .apart p lp (path-free (G .path p lp z)) e)) (zero-or (getD l p 0))
+    seed-none p lp e = ⊎-elim (λ z. z) (λ z. absurd (fr .apart p lp (joined-free (h * w) (touch w) free seed (G .path p lp z)) e)) (zero-or (getD l p 0))
 
     -- at rest ------------------------------------------------------------------------------------------------
     module _ (quiet : (p : ℕ) → p < h * w → M p ≡ false) where
       reach : {k p : ℕ} → p < h * w → Joined (h * w) (touch w) free seed k p → (0 < getD l p 0) × (getD l p 0 ≤ k)
-      reach lp (start {p = p} {o = o} f lo t s) = omega (arith, G .ones p lp (one-in p o f lo t s))
+      reach lp (start {p = p} {o = o} f lo t s) = let (a, b) = G .sure p lp (G .first p lp f (touching-by p o lo t s)) in (a, b 1 (start f lo t s))
       reach lp (onward {k = k} {p = p} {o = o} f lo t s) = go (reach lo s)
         where
           go : (0 < getD l o 0) × (getD l o 0 ≤ k) → (0 < getD l p 0) × (getD l p 0 ≤ suc k)
@@ -131,12 +122,13 @@ module _ (w h : ℕ) (free seed : Plane) where
     -- one pixel looked at ------------------------------------------------------------------------------------
     module _ (p : ℕ) (lp : p < h * w) (mp : M p ≡ true) (best : ℕ) (low : (q : ℕ) → q < h * w → touch w p q ≡ true → best ≤ level (getD l q 0)) where
       -- it stays, and loses its mark
-      pub kept : (N : Plane) → level (getD l p 0) ≤ best + 1 → ((x : ℕ) → x < h * w → N x ≡ false → (x ≡ p) ⊎ (M x ≡ false)) → ((x : ℕ) → x < h * w → N x ≡ true → M x ≡ true) → Going w h free seed l N
+      pub kept : (N : Plane) → level (getD l p 0) ≤ best + 1 → ((x : ℕ) → x < h * w → N x ≡ false → (x ≡ p) ⊎ (M x ≡ false)) → ((x : ℕ) → x < h * w → N x ≡ true → M x ≡ true) → Going w h free seed known l N
       kept N k out in' = record {
         long = G .long;
         path = G .path;
         few = G .few;
-        ones = G .ones;
+        first = G .first;
+        sure = G .sure;
         rest = λ x lx f e q lq t. ⊎-elim
             (λ (a : x ≡ p). let t' : touch w p q ≡ true = subst (λ (y : ℕ). touch w y q ≡ true) a t in
             subst (λ (y : ℕ). level (getD l y 0) ≤ level (getD l q 0) + 1) (sym a) (omega (arith, low q lq t')))
@@ -185,8 +177,8 @@ module _ (w h : ℕ) (free seed : Plane) where
         level-le : (x : ℕ) → level (getD l x 0) ≤ level (getD (set l p (best + 1)) x 0) ⊎ (x ≡ p)
         level-le x = elim (ℕ-discrete x p) [ yes a ↦ inr a | no a ↦ inl (subst (λ (y : ℕ). level (getD l x 0) ≤ level y) (sym (other x a)) (omega arith)) ]
 
-        pub lowered : (N : Plane) → ((x : ℕ) → x < h * w → N x ≡ false → (x ≡ p) ⊎ ((M x ≡ false) × (touch w x p ≡ true → later (h * w) (touch w) free seed x ≡ false)))
-            → ((x : ℕ) → x < h * w → N x ≡ true → later (h * w) (touch w) free seed x ≡ true) → Going w h free seed (set l p (best + 1)) N
+        pub lowered : (N : Plane) → ((x : ℕ) → x < h * w → N x ≡ false → (x ≡ p) ⊎ ((M x ≡ false) × (touch w x p ≡ true → later free known x ≡ false)))
+            → ((x : ℕ) → x < h * w → N x ≡ true → later free known x ≡ true) → Going w h free seed known (set l p (best + 1)) N
         lowered N out in' = record {
           long = length-set l p (best + 1) ∙ G .long;
           path = λ x lx z. elim (ℕ-discrete x p) [
@@ -197,9 +189,10 @@ module _ (w h : ℕ) (free seed : Plane) where
             | yes a ↦ subst (λ (y : ℕ). getD (set l p (best + 1)) y 0 ≤ sumBy one (set l p (best + 1))) (sym a) (omega (arith, same, v-few))
             | no a ↦ omega (arith, other x a, G .few x lx, count-eq, one-le (getD l p 0))
           ];
-          ones = λ x lx e. elim (ℕ-discrete x p) [
-            | yes a ↦ clash (subst (λ (y : ℕ). ringOne (h * w) (touch w) free seed y ≡ true) a e) (later-split p (G .marked p lp mp) .1)
-            | no a ↦ other x a ∙ G .ones x lx e
+          first = G .first;
+          sure = λ x lx e. elim (ℕ-discrete x p) [
+            | yes a ↦ clash (subst (λ (y : ℕ). known y ≡ true) a e) (later-split p (G .marked p lp mp) .1)
+            | no a ↦ subst (λ (r : ℕ). (0 < r) × ((k : ℕ) → Joined (h * w) (touch w) free seed k x → r ≤ k)) (sym (other x a)) (G .sure x lx e)
           ];
           rest = λ x lx f e q lq t. rests x lx f (out x lx e) q lq t;
           marked = in';
@@ -221,16 +214,18 @@ module _ (w h : ℕ) (free seed : Plane) where
                 subst (λ (y : ℕ). level (getD (set l p (best + 1)) y 0) ≤ level (getD (set l p (best + 1)) q 0) + 1) (sym a)
                 (rest-p q lq (subst (λ (y : ℕ). touch w y q ≡ true) a t))
 
-            rests : (x : ℕ) → x < h * w → free x ≡ true → (x ≡ p) ⊎ ((M x ≡ false) × (touch w x p ≡ true → later (h * w) (touch w) free seed x ≡ false)) → (q : ℕ) → q < h * w → touch w x q ≡ true
+            rests : (x : ℕ) → x < h * w → free x ≡ true → (x ≡ p) ⊎ ((M x ≡ false) × (touch w x p ≡ true → later free known x ≡ false)) → (q : ℕ) → q < h * w → touch w x q ≡ true
                 → level (getD (set l p (best + 1)) x 0) ≤ level (getD (set l p (best + 1)) q 0) + 1
             rests x lx f (inl a) q lq t = at-p x q a lq t
             rests x lx f (inr b) q lq t = elim (ℕ-discrete x p) [
               | yes a ↦ at-p x q a lq t
               | no a ↦ elim (ℕ-discrete q p) [
                 | yes c ↦
-                    let o1 : getD l x 0 ≡ 1 = G .ones x lx (not-later x f (b .1 (subst (λ (y : ℕ). touch w x y ≡ true) c t))) in
-                    let o2 : level (getD (set l p (best + 1)) x 0) ≡ 1 = ap level (other x a ∙ o1) in
-                    omega (arith, o2)
+                    let tp : touch w x p ≡ true = subst (λ (y : ℕ). touch w x y ≡ true) c t in
+                    let (o1, o2) = G .sure x lx (not-later x f (b .1 tp)) in
+                    let o3 : getD l x 0 ≤ suc (best + 1) = o2 (suc (best + 1)) (onward f lp tp path-v) in
+                    let e : level (getD (set l p (best + 1)) q 0) ≡ best + 1 = ap (λ (y : ℕ). level (getD (set l p (best + 1)) y 0)) c ∙ ap level same ∙ level-pos (best + 1) (omega arith) in
+                    omega (arith, e, o3, ap level (other x a) ∙ level-pos (getD l x 0) o1)
                 | no c ↦ omega (arith, ap level (other x a), ap level (other q c), G .rest x lx f (b .0) q lq t)
               ]
             ]

@@ -25,13 +25,9 @@ abbrev pub one : ℕ → ℕ
 one zero = 0
 one (suc v) = 1
 
-module _ (m : ℕ) (touch : ℕ → ℕ → Bool) (free seed : Plane) where
-  -- free pixels that touch a seed get ring 1, and the others a later one or none
-  unfoldable pub ringOne : Plane
-  ringOne p = free p && touching m touch seed p
-
-  unfoldable pub later : Plane
-  later p = free p && not (ringOne p)
+-- the free pixels whose ring is not known: those that may be marked
+unfoldable pub later : Plane → Plane → Plane
+later free known p = free p && not (known p)
 
 -- One pair of layers
 module _ (w h : ℕ) (free seed : Plane) where
@@ -40,11 +36,13 @@ module _ (w h : ℕ) (free seed : Plane) where
     pub apart : (p : ℕ) → p < h * w → free p ≡ true → seed p ≡ true → ⊥
     pub room : h * w ≤ 65536
 
-  -- rings l, marks M: each ring is the length of a path, none is more than there are rings, and unmarked free pixels rest
-  pub record Going (l : List ℕ) (M : Plane) : Type 0 where
+  -- rings l, marks M: each ring is the length of a path, none is more than there are rings, known pixels have the fewest steps, and
+  -- unmarked free pixels rest
+  pub record Going (known : Plane) (l : List ℕ) (M : Plane) : Type 0 where
     pub long : length l ≡ h * w
     pub path : (p : ℕ) → p < h * w → 0 < getD l p 0 → Joined (h * w) (touch w) free seed (getD l p 0) p
     pub few : (p : ℕ) → p < h * w → getD l p 0 ≤ sumBy one l
-    pub ones : (p : ℕ) → p < h * w → ringOne (h * w) (touch w) free seed p ≡ true → getD l p 0 ≡ 1
+    pub first : (p : ℕ) → p < h * w → free p ≡ true → touching (h * w) (touch w) seed p ≡ true → known p ≡ true
+    pub sure : (p : ℕ) → p < h * w → known p ≡ true → (0 < getD l p 0) × ((k : ℕ) → Joined (h * w) (touch w) free seed k p → getD l p 0 ≤ k)
     pub rest : (p : ℕ) → p < h * w → free p ≡ true → M p ≡ false → (q : ℕ) → q < h * w → touch w p q ≡ true → level (getD l p 0) ≤ level (getD l q 0) + 1
-    pub marked : (p : ℕ) → p < h * w → M p ≡ true → later (h * w) (touch w) free seed p ≡ true
+    pub marked : (p : ℕ) → p < h * w → M p ≡ true → later free known p ≡ true

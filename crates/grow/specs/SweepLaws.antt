@@ -141,8 +141,8 @@ rows-clean w h st z l e p lp =
     e (spot st (p / w) (p % w)) b a
 
 -- a pair with no mark left has its rings
-pub grows-rest : (w h st : ℕ) (free seed : Plane) (ring marks got cand : List ℕ) → Grows w h st free seed ring marks got cand → ((p : ℕ) → p < h * w → seen w st marks p ≡ false) → ring ≡ grown (h * w) (touch w) free seed (h * w)
-grows-rest w h st free seed ring marks got cand G q = at-rest w h free seed (G .frame) ring (seen w st marks) (G .going) q
+pub grows-rest : (w h st : ℕ) (free seed known : Plane) (ring marks got cand : List ℕ) → Grows w h st free seed known ring marks got cand → ((p : ℕ) → p < h * w → seen w st marks p ≡ false) → ring ≡ grown (h * w) (touch w) free seed (h * w)
+grows-rest w h st free seed known ring marks got cand G q = at-rest w h free seed known (G .frame) ring (seen w st marks) (G .going) q
 
 -- what a visit leaves ---------------------------------------------------------------------------------------------------
 
@@ -158,7 +158,7 @@ module _ (w h st : ℕ) (ring marks got cand : List ℕ) (K : Kit w h st ring ma
       let cl' : Cleared (spot st r (b * 8 + k)) marks' marks = subst (λ (y : ℕ). Cleared y marks' marks) t-is cl in (
         kit-kept w h st ring marks got cand K (spot st r (b * 8 + k)) marks' e cl',
         moved-kept w h st ring marks got cand K (spot st r (b * 8 + k)) marks' cl',
-        λ free seed G. visit-kept w h st free seed ring marks got cand (K .sizes) G r (b * 8 + k) lr lc mp best L marks' cl' x,
+        λ free seed known G. visit-kept w h st free seed known ring marks got cand (K .sizes) G r (b * 8 + k) lr lc mp best L marks' cl' x,
       )
 
   pub visit-fell-by : (marks1 marks2 got' : List ℕ) → length marks2 ≡ length marks → length got' ≡ length got → Cleared (((r + 1) * st + b) * 8 + k) marks1 marks
@@ -172,7 +172,7 @@ module _ (w h st : ℕ) (ring marks got cand : List ℕ) (K : Kit w h st ring ma
       let li' : Lit (spot st r (b * 8 + k)) got' got = subst (λ (y : ℕ). Lit y got' got) t-is li in (
         kit-fell w h st ring marks got cand K (spot st r (b * 8 + k)) (st * 8) (r * w + (b * 8 + k)) (best + 1) marks1 marks2 got' e f cl' sp',
         moved-fell w h st ring marks got cand K (r * w + (b * 8 + k)) (best + 1) marks2 (digits-lt lr lc) (omega arith) lo,
-        λ free seed G. visit-fell w h st free seed ring marks got cand (K .sizes) G r (b * 8 + k) lr lc mp best L lo sm marks1 marks2 got' cl' sp' li' (K .marks-in),
+        λ free seed known G. visit-fell w h st free seed known ring marks got cand (K .sizes) G r (b * 8 + k) lr lc mp best L lo sm marks1 marks2 got' cl' sp' li' (K .marks-in),
       )
 
   pub pixel-room : r * w + (b * 8 + k) < h * w

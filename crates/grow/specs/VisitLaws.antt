@@ -37,7 +37,7 @@ spread t far cand m0 m1 m2 m3 m4 le a b d e = record {
   ];
 }
 
-module _ (w h st : ℕ) (free seed : Plane) (ring marks got cand : List ℕ) (z : Sizes w h st) (G : Grows w h st free seed ring marks got cand) (r c : ℕ) (lr : r < h) (lc : c < w) where
+module _ (w h st : ℕ) (free seed known : Plane) (ring marks got cand : List ℕ) (z : Sizes w h st) (G : Grows w h st free seed known ring marks got cand) (r c : ℕ) (lr : r < h) (lc : c < w) where
   p : ℕ
   p = r * w + c
 
@@ -67,12 +67,12 @@ module _ (w h st : ℕ) (free seed : Plane) (ring marks got cand : List ℕ) (z 
     unfolding levelAt
     low q lq t = L .below q (touch-block w h (r * w + c) q (z .w-min) lq t .0)
 
-    pub visit-kept : (marks' : List ℕ) → Cleared (spot st r c) marks' marks → level (getD ring (r * w + c) 0) ≤ best + 1 → Grows w h st free seed ring marks' got cand
+    pub visit-kept : (marks' : List ℕ) → Cleared (spot st r c) marks' marks → level (getD ring (r * w + c) 0) ≤ best + 1 → Grows w h st free seed known ring marks' got cand
     visit-kept marks' cl k = record {
       frame = G .frame;
       cands = G .cands;
       gots = G .gots;
-      going = kept w h free seed (G .frame) ring (seen w st marks) (G .going) (r * w + c) lp (seen-at marks ∙ mp) best low (seen w st marks') k
+      going = kept w h free seed known (G .frame) ring (seen w st marks) (G .going) (r * w + c) lp (seen-at marks ∙ mp) best low (seen w st marks') k
           (λ x lx e. elim (ℕ-discrete x (r * w + c)) [
             | yes a ↦ inl a
             | no a ↦ inr (seen-is marks x ∙ sym (cl .same (spot st (x / w) (x % w)) (spot-other x lx a)) ∙ sym (seen-is marks' x) ∙ e)
@@ -93,20 +93,20 @@ module _ (w h st : ℕ) (free seed : Plane) (ring marks got cand : List ℕ) (z 
           (o, lo, t, L .at .2)
 
       pub visit-falls : sumBy level (set ring (r * w + c) (best + 1)) < sumBy level ring
-      visit-falls = fell w h free seed (G .frame) ring (seen w st marks) (G .going) (r * w + c) lp (seen-at marks ∙ mp) best low (from .0) (from .1) (from .2) (from .3) lower small
+      visit-falls = fell w h free seed known (G .frame) ring (seen w st marks) (G .going) (r * w + c) lp (seen-at marks ∙ mp) best low (from .0) (from .1) (from .2) (from .3) lower small
 
       pub visit-fell : (marks1 marks2 got' : List ℕ) → Cleared (spot st r c) marks1 marks → Spread (spot st r c) (st * 8) cand marks2 marks1 → Lit (spot st r c) got' got
           → ((j : ℕ) → j < (h + 2) * st * 8 → bitOf marks j ≡ true → bitOf cand j ≡ true)
-          → Grows w h st free seed (set ring (r * w + c) (best + 1)) marks2 got' cand
+          → Grows w h st free seed known (set ring (r * w + c) (best + 1)) marks2 got' cand
       visit-fell marks1 marks2 got' cl sp li sub = record {
         frame = G .frame;
         cands = G .cands;
         gots = scratch-in w h st z (λ p. ltb 0 (getD (set ring (r * w + c) (best + 1)) p 0)) got' got-there got-back;
-        going = lowered w h free seed (G .frame) ring (seen w st marks) (G .going) (r * w + c) lp (seen-at marks ∙ mp) best low (from .0) (from .1) (from .2) (from .3) lower small (seen w st marks2) out in';
+        going = lowered w h free seed known (G .frame) ring (seen w st marks) (G .going) (r * w + c) lp (seen-at marks ∙ mp) best low (from .0) (from .1) (from .2) (from .3) lower small (seen w st marks2) out in';
       }
         where
-          later-is : (x : ℕ) → x < h * w → bitOf cand (spot st (x / w) (x % w)) ≡ later (h * w) (touch w) free seed x
-          later-is x lx = G .cands .pixel (x / w) (x % w) (spot-of x lx .0) (spot-of x lx .1) ∙ ap (later (h * w) (touch w) free seed) (div-add-mod' x w)
+          later-is : (x : ℕ) → x < h * w → bitOf cand (spot st (x / w) (x % w)) ≡ later free known x
+          later-is x lx = G .cands .pixel (x / w) (x % w) (spot-of x lx .0) (spot-of x lx .1) ∙ ap (later free known) (div-add-mod' x w)
 
           -- a neighbour stands in one of the three windows
           window : (x : ℕ) → x < h * w → touch w x (r * w + c) ≡ true → (x ≡ r * w + c → ⊥) → bitOf cand (spot st (x / w) (x % w)) ≡ true → bitOf marks2 (spot st (x / w) (x % w)) ≡ true
@@ -131,7 +131,7 @@ module _ (w h st : ℕ) (free seed : Plane) (ring marks got cand : List ℕ) (z 
                 ]
               ]
 
-          out : (x : ℕ) → x < h * w → seen w st marks2 x ≡ false → (x ≡ r * w + c) ⊎ ((seen w st marks x ≡ false) × (touch w x (r * w + c) ≡ true → later (h * w) (touch w) free seed x ≡ false))
+          out : (x : ℕ) → x < h * w → seen w st marks2 x ≡ false → (x ≡ r * w + c) ⊎ ((seen w st marks x ≡ false) × (touch w x (r * w + c) ≡ true → later free known x ≡ false))
           out x lx e = elim (ℕ-discrete x (r * w + c)) [
             | yes a ↦ inl a
             | no a ↦
@@ -140,13 +140,13 @@ module _ (w h st : ℕ) (free seed : Plane) (ring marks got cand : List ℕ) (z 
                   split (bitOf marks (spot st (x / w) (x % w)))
                       (λ u. clash (sp .keeps (spot st (x / w) (x % w)) (spot-other x lx a) (cl .same (spot st (x / w) (x % w)) (spot-other x lx a) ∙ u)) no2)
                       (λ u. seen-is marks x ∙ u),
-                  λ t. split (later (h * w) (touch w) free seed x)
+                  λ t. split (later free known x)
                       (λ u. clash (window x lx t a (later-is x lx ∙ u)) no2)
                       (λ u. u),
                 )
           ]
 
-          in' : (x : ℕ) → x < h * w → seen w st marks2 x ≡ true → later (h * w) (touch w) free seed x ≡ true
+          in' : (x : ℕ) → x < h * w → seen w st marks2 x ≡ true → later free known x ≡ true
           in' x lx e =
               let j : ℕ = spot st (x / w) (x % w) in
               sym (later-is x lx) ∙ ⊎-elim

@@ -1,11 +1,12 @@
-// The first ring.
+// The rings before the first wave, and a number written where a plane is set.
 ghost use mathlib.Core.Path.{_≡_};
 ghost use mathlib.Core.Bool.{true};
+ghost use mathlib.Core.List.{List};
 ghost use Prim.Native.Nat.{ℕ, _+_, _*_, _<_, _≤_};
 ghost use lib.ListN.{length, getD};
 ghost use Rattle.rules.specs.Images.{bitAt};
 ghost use Rattle.image.specs.Scratch.{Sizes, Framed};
-ghost use Rattle.grow.specs.StartLaws.{Ones, byteOnes, rowOnes, allOnes};
+ghost use Rattle.grow.specs.StartLaws.{Filled, byteOnes, rowOnes, allOnes};
 
 // Sets every ring to 0.
 pub fn zero(ring: &mut [u16])
@@ -18,28 +19,28 @@ pub fn zero(ring: &mut [u16])
     }
 }
 
-// Writes 1 at the set bits of m, from base on.
-fn ones_byte(ring: &mut [u16], m: u8, base: usize)
+// Writes v at the set bits of m, from base on.
+fn fill_byte(ring: &mut [u16], m: u8, base: usize, v: u16)
     requires { ⌜ ((k : ℕ) → k < 8 → bitAt m k ≡ true → base + k < length (now ring)) ⌝ }
     requires { ⌜ base ≤ 70000 ⌝ }
-    ensures { λ _. ⌜ Ones (byteOnes m base 8) (now (ring .exit)) (now (ring .entry)) ⌝ }
+    ensures { λ _. ⌜ Filled v (byteOnes m base 8) (now (ring .exit)) (now (ring .entry)) ⌝ }
 {
     let mut k: usize = 0;
     while k < 8 {
         let j = k;
         k += 1;
         if (m >> (7 - j)) & 1 == 1 {
-            ring[base + j] = 1;
+            ring[base + j] = v;
         }
     }
 }
 
-// Writes 1 at the pixels of one row.
-fn ones_row(ring: &mut [u16], l: &[u8], w: usize, h: usize, st: usize, r: usize)
+// Writes v at the pixels of one row.
+fn fill_row(ring: &mut [u16], l: &[u8], v: u16, w: usize, h: usize, st: usize, r: usize)
     requires { ⌜ Sizes w h st ⌝ }
     requires { ⌜ Framed w h st (now l) ⌝ }
     requires { ⌜ (r < h) × (8704 ≤ length (now l)) × (length (now ring) ≡ h * w) ⌝ }
-    ensures { λ _. ⌜ Ones (rowOnes (now (l .entry)) ((r + 1) * st) (r * w) st) (now (ring .exit)) (now (ring .entry)) ⌝ }
+    ensures { λ _. ⌜ Filled v (rowOnes (now (l .entry)) ((r + 1) * st) (r * w) st) (now (ring .exit)) (now (ring .entry)) ⌝ }
 {
     let i0 = (r + 1) * st;
     let base = r * w;
@@ -49,24 +50,49 @@ fn ones_row(ring: &mut [u16], l: &[u8], w: usize, h: usize, st: usize, r: usize)
         b += 1;
         let m = l[i0 + a];
         if m != 0 {
-            ones_byte(ring, m, base + a * 8);
+            fill_byte(ring, m, base + a * 8, v);
         }
     }
 }
 
-// Writes 1 at the pixels of a plane.
-pub fn ones(ring: &mut [u16], l: &[u8], w: usize, h: usize, st: usize)
+// Writes v at the pixels of the rows from a up to b, after those before a.
+fn fill_rows(ring: &mut [u16], l: &[u8], v: u16, w: usize, h: usize, st: usize, a: usize, b: usize)
+    requires { ⌜ Sizes w h st ⌝ }
+    requires { ⌜ Framed w h st (now l) ⌝ }
+    requires { ⌜ (a ≤ b) × (b ≤ h) × (8704 ≤ length (now l)) × (length (now ring) ≡ h * w) ⌝ }
+    ensures { λ _. ⌜ ((was : List ℕ) → Filled v (allOnes (now (l .entry)) w st a) (now (ring .entry)) was → Filled v (allOnes (now (l .entry)) w st b) (now (ring .exit)) was) ⌝ }
+{
+    let mut r = a;
+    while r < b {
+        let y = r;
+        r += 1;
+        if image::planes::any(l, (y + 1) * st, (y + 1) * st + st) {
+            fill_row(ring, l, v, w, h, st, y);
+        }
+    }
+}
+
+// The row eight further, and h where there is none.
+pub fn eight_on(r: usize, h: usize) -> usize
+    requires { ⌜ (r < h) × (h ≤ 256) ⌝ }
+    ensures { λ e. ⌜ (r < e) × (e ≤ h) ⌝ }
+{
+    if r + 8 < h { r + 8 } else { h }
+}
+
+// Writes v at the pixels of a plane, eight rows at a time: most have none.
+pub fn fill(ring: &mut [u16], l: &[u8], v: u16, w: usize, h: usize, st: usize)
     requires { ⌜ Sizes w h st ⌝ }
     requires { ⌜ Framed w h st (now l) ⌝ }
     requires { ⌜ (8704 ≤ length (now l)) × (length (now ring) ≡ h * w) ⌝ }
-    ensures { λ _. ⌜ Ones (allOnes (now (l .entry)) w st h) (now (ring .exit)) (now (ring .entry)) ⌝ }
+    ensures { λ _. ⌜ Filled v (allOnes (now (l .entry)) w st h) (now (ring .exit)) (now (ring .entry)) ⌝ }
 {
     let mut r: usize = 0;
     while r < h {
         let y = r;
-        r += 1;
-        if image::planes::any(l, (y + 1) * st, (y + 1) * st + st) {
-            ones_row(ring, l, w, h, st, y);
+        r = eight_on(y, h);
+        if image::planes::any(l, (y + 1) * st, (r + 1) * st) {
+            fill_rows(ring, l, v, w, h, st, y, r);
         }
     }
 }

@@ -82,7 +82,40 @@ fn settle_row(
     changed
 }
 
-// Goes through the rows once, and tells whether a ring fell.
+// Goes through the rows from a up to b once, and tells whether a ring fell.
+fn sweep_rows(
+    ring: &mut [u16],
+    marks: &mut [u8],
+    got: &mut [u8],
+    cand: &[u8],
+    w: usize,
+    h: usize,
+    st: usize,
+    a: usize,
+    b: usize,
+) -> bool
+    requires { ⌜ Kit w h st (now ring) (now marks) (now got) (now cand) ⌝ }
+    requires { ⌜ (a ≤ b) × (b ≤ h) ⌝ }
+    ensures { λ _. ⌜ Kit w h st (now (ring .exit)) (now (marks .exit)) (now (got .exit)) (now (cand .entry)) ⌝ }
+    ensures { λ d. ⌜ Moved d (now (ring .exit)) (now (ring .entry)) (now (marks .exit)) (now (marks .entry)) ⌝ }
+    ensures { λ d. ⌜ (d ≡ false → (j : ℕ) → (a + 1) * st * 8 ≤ j → j < (b + 1) * st * 8 → bitOf (now (marks .exit)) j ≡ false) ⌝ }
+    ensures { λ _. ⌜ Onward w h st (now (ring .exit)) (now (ring .entry)) (now (marks .exit)) (now (marks .entry)) (now (got .exit)) (now (got .entry)) (now (cand .entry)) ⌝ }
+{
+    let mut changed = false;
+    let mut r = a;
+    while r < b {
+        let y = r;
+        r += 1;
+        if image::planes::any(marks, (y + 1) * st, (y + 1) * st + st) {
+            if settle_row(ring, marks, got, cand, w, h, st, y) {
+                changed = true;
+            }
+        }
+    }
+    changed
+}
+
+// Goes through the rows once, eight at a time, since most have no mark; tells whether a ring fell.
 fn sweep(
     ring: &mut [u16],
     marks: &mut [u8],
@@ -102,9 +135,9 @@ fn sweep(
     let mut r: usize = 0;
     while r < h {
         let y = r;
-        r += 1;
-        if image::planes::any(marks, (y + 1) * st, (y + 1) * st + st) {
-            if settle_row(ring, marks, got, cand, w, h, st, y) {
+        r = crate::start::eight_on(y, h);
+        if image::planes::any(marks, (y + 1) * st, (r + 1) * st) {
+            if sweep_rows(ring, marks, got, cand, w, h, st, y, r) {
                 changed = true;
             }
         }
@@ -124,7 +157,7 @@ pub fn settle(
 )
     requires { ⌜ Kit w h st (now ring) (now marks) (now got) (now cand) ⌝ }
     ensures { λ _. ⌜ Kit w h st (now (ring .exit)) (now (marks .exit)) (now (got .exit)) (now (cand .entry)) ⌝ }
-    ensures { λ _. ⌜ ((free : ℕ → Bool) → (seed : ℕ → Bool) → Grows w h st free seed (now (ring .entry)) (now (marks .entry)) (now (got .entry)) (now (cand .entry))
+    ensures { λ _. ⌜ ((free seed known : ℕ → Bool) → Grows w h st free seed known (now (ring .entry)) (now (marks .entry)) (now (got .entry)) (now (cand .entry))
         → (now (ring .exit) ≡ grown (h * w) (touch w) free seed (h * w)) × Scratch w h st (λ p. ltb 0 (getD (now (ring .exit)) p 0)) (now (got .exit))) ⌝ }
 {
     while sweep(ring, marks, got, cand, w, h, st) {}

@@ -7,6 +7,10 @@ use lib.Dec.{ltb}
 use Rattle.rules.specs.Images.{bitAt}
 use Rattle.image.specs.Scratch.{bitOf}
 
+-- each bit of the first n bytes is g's
+abbrev pub Bits : ℕ → (ℕ → Bool) → List ℕ → Type 0
+Bits n g out = (j : ℕ) → j < n * 8 → bitOf out j ≡ g j
+
 -- each bit of the first n bytes is t of those of a and b
 abbrev pub Bits2 : ℕ → (Bool → Bool → Bool) → List ℕ → List ℕ → List ℕ → Type 0
 Bits2 n t out a b = (j : ℕ) → j < n * 8 → bitOf out j ≡ t (bitOf a j) (bitOf b j)

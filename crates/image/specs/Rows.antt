@@ -20,6 +20,11 @@ pub record Clean (w h : ℕ) (s : List ℕ) : Type 0 where
   pub long : length s ≡ h * rowBytes w
   pub clear : (r c : ℕ) → r < h → w ≤ c → c < rowBytes w * 8 → bitOf s (r * rowBytes w * 8 + c) ≡ false
 
+-- s is the packed plane f: its pixels are f's, and no padding bit is set
+pub record Packs (w h : ℕ) (f : Plane) (s : List ℕ) : Type 0 where
+  pub clean : Clean w h s
+  pub pixels : (p : ℕ) → p < h * w → packed w s p ≡ f p
+
 -- n bytes from i of src stand from j on, and all others are as they were
 pub record Run (n i j : ℕ) (src out was : List ℕ) : Type 0 where
   pub inner : (k : ℕ) → k < n → getD out (j + k) 0 ≡ getD src (i + k) 0

@@ -3,7 +3,7 @@ ghost use mathlib.Core.Path.{_≡_};
 ghost use Prim.Native.Nat.{_+_, _*_, _≤_};
 ghost use lib.ListN.{length};
 ghost use Rattle.rules.specs.Images.{rowBytes};
-ghost use Rattle.image.specs.Rows.{packed, planeBytes, Clean, Run, Runs};
+ghost use Rattle.image.specs.Rows.{packed, Clean, Packs, Run, Runs};
 ghost use Rattle.image.specs.Scratch.{Sizes, seen, Ready, Drawn};
 
 // n bytes from i of src to j of out.
@@ -44,7 +44,7 @@ pub fn read_plane(s: &[u8], out: &mut [u8], w: usize, h: usize, st: usize)
 pub fn write_plane(p: &[u8], s: &mut [u8], w: usize, h: usize, st: usize)
     requires { ⌜ Sizes w h st ⌝ }
     requires { ⌜ Ready w h st (now p) × (length (now s) ≡ h * rowBytes w) ⌝ }
-    ensures { λ _. ⌜ now (s .exit) ≡ planeBytes w h (seen w st (now (p .entry))) ⌝ }
+    ensures { λ _. ⌜ Packs w h (seen w st (now (p .entry))) (now (s .exit)) ⌝ }
 {
     runs(p, s, h, st - 1, st, st, 0, st - 1);
 }

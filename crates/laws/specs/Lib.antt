@@ -15,6 +15,7 @@ pub mod Tests
 pub mod Limits
 pub mod Discs
 pub mod Growing
+pub mod Waves
 pub mod Places
 pub mod Neighbours
 pub mod PixelBytes

@@ -1,27 +1,30 @@
 -- Laws of one pair of layers.
 use mathlib.Core.Path.{_≡_, refl, sym, ap, ap₂, subst, _∙_}
-use mathlib.Core.List.{List}
+use mathlib.Core.List.{List, [], _∷_, _++_}
 use mathlib.Core.Bool.{Bool, true, false, not, _&&_, _||_}
-use mathlib.Core.Logic.{_⊎_, inl, inr, ⊎-elim}
-use Prim.Native.Nat.{ℕ, zero, suc, _+_, _-_, _*_, _≤_, _<_}
+use mathlib.Core.Logic.{_⊎_, inl, inr}
+use Prim.Native.Nat.{ℕ, _+_, _-_, _*_, _/_, _%_, _≤_, _<_}
+use native.Mathlib.Nat.{mod-lt, div-lt-iff-lt-mul, mul-le-mul}
+use native.Mathlib.Decide.{decLt}
 use native.Mathlib.Omega.{arith}
-use borrow.Author.Tests.{le-ltb}
+use borrow.Author.Tests.{eqb-true, not-false}
 use lib.Bits.{bitAnd, bitOr}
-use lib.Dec.{leb, ltb}
-use lib.ListN.{length, getD}
-use lib.Seq.{ext-getD}
-use Rattle.rules.specs.Demands.{Joined, start, onward}
-use Rattle.rules.specs.Images.{Plane, bitAt}
+use lib.Dec.{leb, ltb, eqb}
+use lib.ListN.{length, getD, take, length-take, replicate, length-replicate, getD-replicate, List·getD-eq-default}
+use lib.Seq.{getD-take, length-take-le}
+use Rattle.rules.specs.Images.{Plane, bitAt, rowBytes}
 use Rattle.rules.specs.Planning.{touch, grown, shadow, seeds, near, reached}
 use Rattle.rules.specs.Reach.{distance²}
-use Rattle.laws.specs.Growing.{ring-joined, ring-fewest, length-grown}
-use Rattle.laws.specs.Tests.{split, bool-eq, clash, and-l, and-r, and-in, not-out, some-in, some-out}
-use Rattle.image.specs.Bits.{bit-and, bit-or, bit-not}
+use Rattle.laws.specs.Growing.{grown-same, grown-none}
+use Rattle.laws.specs.Tests.{bool-eq, clash, and-l, and-r, and-in, not-out, some-in, some-out}
+use Rattle.image.specs.Bits.{bit-and, bit-or, bit-not, zero-bit, byte-but-not}
 use Rattle.image.specs.Filling.{bit-here}
-use Rattle.image.specs.Loops.{Bits2, butNot, Within}
-use Rattle.image.specs.Planes.{wide-row, spot-size, scratch-op, scratch-seen, scratch-same, framed-scratch, zero-framed}
-use Rattle.image.specs.Scratch.{bitOf, spot, Sizes, Framed, Scratch, seen, Drawn}
-use Rattle.plan.specs.Pairs.{nearIn, pairRings, keepBit, pairSupport}
+use Rattle.image.specs.Loops.{Bits, Bits2, butNot}
+use Rattle.image.specs.Planes.{row-fits, scratch-op, scratch-seen}
+use Rattle.image.specs.Rows.{packed, Clean, Packs}
+use Rattle.image.specs.Scratch.{bitOf, Sizes, Scratch, seen}
+use Rattle.grow.specs.Rings.{nearIn}
+use Rattle.plan.specs.Pairs.{pairRings, unexcused, pairSupport}
 
 -- A pair looks only at the pixels that exist -------------------------------------------------------------------------
 
@@ -44,81 +47,170 @@ module _ (w h q : ℕ) (low low' up up' : Plane) (el : (p : ℕ) → p < h * w �
       (λ p lp. ap₂ _&&_ (shadow-same p lp) (near-same p)) (λ p lp. ap₂ _&&_ (el p lp) (eu p lp))
 
   pub support-same : (above above' : Plane) → ((p : ℕ) → p < h * w → above p ≡ above' p) → (p : ℕ) → p < h * w → pairSupport w h q low up above p ≡ pairSupport w h q low' up' above' p
-  unfolding pairSupport
+  unfolding pairSupport unexcused
   support-same above above' ea p lp = rw (shadow-same p lp, rings-same, el p lp, ea p lp)
 
--- Support --------------------------------------------------------------------------------------------------------------
+-- Packed planes by their bytes -------------------------------------------------------------------------------------------
 
-pub support-byte : (sh ex low out was : List ℕ) (i : ℕ) → getD ex i 0 < 256 → getD low i 0 < 256 → getD out i 0 ≡ getD was i 0 → (m : ℕ) → m < 8
-    → bitAt (bitAnd (bitOr (bitAnd (getD sh i 0) (255 - getD ex i 0)) (getD out i 0)) (255 - getD low i 0)) m
-    ≡ keepBit (bitOf sh (i * 8 + m)) (bitOf ex (i * 8 + m)) (bitOf low (i * 8 + m)) (bitOf was (i * 8 + m))
-support-byte sh ex low out was i x y e m l =
-    bit-and (bitOr (bitAnd (getD sh i 0) (255 - getD ex i 0)) (getD out i 0)) (255 - getD low i 0) m
+-- in the first n bytes no pixel of the upper layer hangs
+abbrev pub NoneHangs : ℕ → List ℕ → List ℕ → Type 0
+NoneHangs n low up = (k : ℕ) → k < n → (m : ℕ) → m < 8 → butNot (bitAt (getD up k 0) m) (bitAt (getD low k 0) m) ≡ false
+
+pub none-more : (low up : List ℕ) (i : ℕ) → getD low i 0 < 256 → bitAnd (getD up i 0) (255 - getD low i 0) ≡ 0 → NoneHangs i low up → NoneHangs (i + 1) low up
+none-more low up i small e f k lk m lm = elim (decLt k i) [
+  | yes x ↦ f k x m lm
+  | no x ↦
+      let k′ : k ≡ i = omega arith in
+      rw k′ (sym (byte-but-not (getD up i 0) (getD low i 0) small m lm) ∙ ap (λ (v : ℕ). bitAt v m) e ∙ zero-bit m)
+]
+
+pub none-hangs : (low up : List ℕ) (n t : ℕ) → (t ≡ 0 → NoneHangs n low up) → not (eqb t 0) ≡ false → (j : ℕ) → j < n * 8 → butNot (bitOf up j) (bitOf low j) ≡ false
+unfolding bitOf
+none-hangs low up n t all e j lj = all (eqb-true t 0 (not-false (eqb t 0) e)) (j / 8) (omega arith) (j % 8) (omega arith)
+
+-- one byte of the support
+pub support-byte : (rest low above : List ℕ) (i : ℕ) → getD low i 0 < 256 → (m : ℕ) → m < 8
+    → bitAt (bitAnd (bitOr (getD rest i 0) (getD above i 0)) (255 - getD low i 0)) m ≡ (bitOf rest (i * 8 + m) || bitOf above (i * 8 + m)) && not (bitOf low (i * 8 + m))
+support-byte rest low above i y m l =
+    bit-and (bitOr (getD rest i 0) (getD above i 0)) (255 - getD low i 0) m
     ∙ ap₂ _&&_
-    (bit-or (bitAnd (getD sh i 0) (255 - getD ex i 0)) (getD out i 0) m
-    ∙ ap₂ _||_ (bit-and (getD sh i 0) (255 - getD ex i 0) m ∙ ap₂ _&&_ (sym (bit-here sh i m l)) (bit-not (getD ex i 0) m x l ∙ ap not (sym (bit-here ex i m l))))
-    (ap (λ (n : ℕ). bitAt n m) e ∙ sym (bit-here was i m l)))
+    (bit-or (getD rest i 0) (getD above i 0) m ∙ ap₂ _||_ (sym (bit-here rest i m l)) (sym (bit-here above i m l)))
     (bit-not (getD low i 0) m y l ∙ ap not (sym (bit-here low i m l)))
 
-module _ (w h st : ℕ) (z : Sizes w h st) where
-  pub scratch-support : (S G L A : Plane) (sh ex low out was : List ℕ) → Scratch w h st S sh → Scratch w h st G ex → Scratch w h st L low → Scratch w h st A was
-      → Within 0 ((h + 2) * st) (λ j. keepBit (bitOf sh j) (bitOf ex j) (bitOf low j) (bitOf was j)) out was → Scratch w h st (λ p. keepBit (S p) (G p) (L p) (A p)) out
-  scratch-support S G L A sh ex low out was ss sg sl sa wi = record {
-    pixel = λ r c lr lc.
-        wi .inner (spot st r c) (omega arith) (spot-size w h st z r c lr (omega (arith, wide-row w h st z)))
-        ∙ ap₂ (λ (a b : Bool). keepBit a b (bitOf low (spot st r c)) (bitOf was (spot st r c))) (ss .pixel r c lr lc) (sg .pixel r c lr lc)
-        ∙ ap₂ (λ (a b : Bool). keepBit (S (r * w + c)) (G (r * w + c)) a b) (sl .pixel r c lr lc) (sa .pixel r c lr lc);
-    rest = λ j lj u. split (bitOf sh j) (λ x. ss .rest j lj x)
-        (λ x. split (bitOf was j) (λ y. sa .rest j lj y)
-        (λ y. clash (sym (wi .inner j (omega arith) lj) ∙ u) (ap₂ (λ (a b : Bool). keepBit a (bitOf ex j) (bitOf low j) b) x y)));
+-- the bytes of a packed plane, as the code counts them
+pub plane-size : (w h st : ℕ) → Sizes w h st → (h * (st - 1) ≡ h * rowBytes w) × (h * (st - 1) ≤ 8192)
+unfolding rowBytes
+plane-size w h st z =
+    let e : st - 1 ≡ (w + 7) / 8 = omega (arith, z .st-is) in
+    let b : st - 1 ≤ 32 = omega (arith, e, z .w-max) in
+    let l : h * (st - 1) ≤ 256 * 32 = mul-le-mul (z .h-max) b in
+    (ap (λ (x : ℕ). h * x) e, omega arith)
+
+-- what was put into the first places of a list
+pub prefix-back : (size : ℕ) (xs ys : List ℕ) → length xs ≡ size → take size (xs ++ ys) ≡ xs
+prefix-back size xs ys e = subst (λ (n : ℕ). take n (xs ++ ys) ≡ xs) e (back xs)
+  where
+    back : (l : List ℕ) → take (length l) (l ++ ys) ≡ l
+    back [] = refl
+    back (x ∷ l) = ap (λ (t : List ℕ). x ∷ t) (back l)
+
+-- the first places of an array of zeros
+zeros-at : (size b : ℕ) → getD (take size (replicate {A = ℕ} 8192 0)) b 0 ≡ 0
+zeros-at size b = elim (decLt b size) [
+  | yes x ↦ getD-take size (replicate 8192 0) b 0 x ∙ zero b
+  | no x ↦ List·getD-eq-default (take size (replicate 8192 0)) 0 {n = b} (omega (arith, length-take size (replicate {A = ℕ} 8192 0)))
+]
+  where
+    zero : (i : ℕ) → getD (replicate {A = ℕ} 8192 0) i 0 ≡ 0
+    zero i = elim (decLt i 8192) [
+      | yes l ↦ getD-replicate 8192 i 0 0 l
+      | no l ↦ List·getD-eq-default (replicate 8192 0) 0 {n = i} (omega (arith, length-replicate {A = ℕ} 8192 0))
+    ]
+
+pub zeros-small : (size b : ℕ) → getD (take size (replicate {A = ℕ} 8192 0)) b 0 < 256
+zeros-small size b = omega (arith, zeros-at size b)
+
+module _ (w h : ℕ) (lw : 0 < w) where
+  -- the bit of a pixel
+  pub place-in : (p : ℕ) → p < h * w → p / w * rowBytes w * 8 + p % w < h * rowBytes w * 8
+  unfolding rowBytes
+  place-in p lp =
+      let lr : p / w < h = div-lt-iff-lt-mul lw .1 lp in
+      let lc : p % w < w = mod-lt p lw in
+      omega (arith, row-fits (p / w) h ((w + 7) / 8) lr)
+
+  pub support-packs : (f : Plane) (rest low above out : List ℕ) (n : ℕ) → Packs w h f rest → Clean w h above → length out ≡ h * rowBytes w → n ≡ h * rowBytes w
+      → Bits n (λ j. (bitOf rest j || bitOf above j) && not (bitOf low j)) out → Packs w h (λ p. (f p || packed w above p) && not (packed w low p)) out
+  unfolding packed
+  support-packs f rest low above out n R C e en b = record {
+    clean = record {
+      long = e;
+      clear = λ r c lr wc lc.
+          b (r * rowBytes w * 8 + c) (omega (arith, en, row-fits r h (rowBytes w) lr))
+          ∙ ap₂ (λ (a b : Bool). (a || b) && not (bitOf low (r * rowBytes w * 8 + c))) (R .clean .clear r c lr wc lc) (C .clear r c lr wc lc);
+    };
+    pixels = λ p lp.
+        b (p / w * rowBytes w * 8 + p % w) (omega (arith, en, place-in p lp))
+        ∙ ap (λ (a : Bool). (a || bitOf above (p / w * rowBytes w * 8 + p % w)) && not (bitOf low (p / w * rowBytes w * 8 + p % w))) (R .pixels p lp);
   }
 
-  -- a plane with no bit set
-  pub none-seen : (l : List ℕ) → ((j : ℕ) → 0 * 8 ≤ j → j < (h + 2) * st * 8 → bitOf l j ≡ false) → (p : ℕ) → p < h * w → seen w st l p ≡ false
-  none-seen l e p lp = scratch-seen w h st z (λ p. false) l (record { pixel = λ r c lr lc. e (spot st r c) (omega arith) (spot-size w h st z r c lr (omega (arith, wide-row w h st z))); rest = zero-framed w h st l (λ j lj. e j (omega arith) lj) }) p lp
+  -- bytes that are all 0 are a plane with no pixel
+  pub zeros-pack : (s : List ℕ) → length s ≡ h * rowBytes w → ((b : ℕ) → getD s b 0 ≡ 0) → Packs w h (λ p. false) s
+  unfolding packed bitOf
+  zeros-pack s long z = record {
+    clean = record { long = long; clear = λ r c lr wc lc. off (r * rowBytes w * 8 + c) };
+    pixels = λ p lp. off (p / w * rowBytes w * 8 + p % w);
+  }
+    where
+      off : (j : ℕ) → bitAt (getD s (j / 8) 0) (j % 8) ≡ false
+      off j = ap (λ (x : ℕ). bitAt x (j % 8)) (z (j / 8)) ∙ zero-bit (j % 8)
 
-  -- The planes of a pair -------------------------------------------------------------------------------------------------
+  -- the first bytes of an array of zeros
+  pub fresh-pack : (size : ℕ) → size ≡ h * rowBytes w → size ≤ 8192 → Packs w h (λ p. false) (take size (replicate 8192 0))
+  fresh-pack size e l = zeros-pack (take size (replicate 8192 0)) (length-take-le size (replicate 8192 0) (omega (arith, length-replicate {A = ℕ} 8192 0)) ∙ e) (zeros-at size)
 
-  module _ (lower upper shL seedL : List ℕ) (q : ℕ) (fl : Framed w h st lower) (fu : Framed w h st upper)
-      (bs : Bits2 ((h + 2) * st) butNot shL upper lower) (be : Bits2 ((h + 2) * st) _&&_ seedL lower upper) where
-    L : Plane
-    L = seen w st lower
+  pub packs-same : (f g : Plane) (s : List ℕ) → ((p : ℕ) → p < h * w → f p ≡ g p) → Packs w h f s → Packs w h g s
+  packs-same f g s e P = record { clean = P .clean; pixels = λ p lp. P .pixels p lp ∙ e p lp }
 
-    pub shadow-is : Scratch w h st (shadow (seen w st lower) (seen w st upper)) shL
-    unfolding shadow
-    shadow-is = scratch-op w h st z butNot (seen w st upper) (seen w st lower) shL upper lower refl (framed-scratch w h st z upper fu) (framed-scratch w h st z lower fl) bs
+-- the support of a layer, from its unexcused pixels
+pub layer-packs : (w h q : ℕ) → 0 < w → (rest low up above out : List ℕ) (n : ℕ) → Packs w h (unexcused w h q (packed w low) (packed w up)) rest → Clean w h above → length out ≡ h * rowBytes w
+    → n ≡ h * rowBytes w → Bits n (λ j. (bitOf rest j || bitOf above j) && not (bitOf low j)) out → Packs w h (pairSupport w h q (packed w low) (packed w up) (packed w above)) out
+unfolding pairSupport
+layer-packs w h q lw rest low up above out n = support-packs w h lw (unexcused w h q (packed w low) (packed w up)) rest low above out n
 
-    pub seeds-are : Scratch w h st (seeds (seen w st lower) (seen w st upper)) seedL
-    unfolding seeds
-    seeds-are = scratch-op w h st z _&&_ (seen w st lower) (seen w st upper) seedL lower upper refl (framed-scratch w h st z lower fl) (framed-scratch w h st z upper fu) be
+-- A pair without shadow -------------------------------------------------------------------------------------------------
 
-    pub shadow-apart : (x : ℕ) → x < h * w → seen w st shL x ≡ true → seen w st seedL x ≡ true → ⊥
-    unfolding shadow seeds
-    shadow-apart x lx a b =
-        let s : shadow (seen w st lower) (seen w st upper) x ≡ true = sym (scratch-seen w h st z (shadow (seen w st lower) (seen w st upper)) shL shadow-is x lx) ∙ a in
-        let d : seeds (seen w st lower) (seen w st upper) x ≡ true = sym (scratch-seen w h st z (seeds (seen w st lower) (seen w st upper)) seedL seeds-are x lx) ∙ b in
-        clash (and-l (seen w st lower x) _ d) (not-out (seen w st lower x) (and-r (seen w st upper x) _ s))
+module _ (w h q : ℕ) (lw : 0 < w) (low up : List ℕ) (cl : Clean w h low) (none : (j : ℕ) → j < length low * 8 → butNot (bitOf up j) (bitOf low j) ≡ false) where
+  no-shadow : (p : ℕ) → p < h * w → shadow (packed w low) (packed w up) p ≡ false
+  unfolding shadow packed
+  no-shadow p lp = none (p / w * rowBytes w * 8 + p % w) (omega (arith, cl .long, place-in w h lw p lp))
 
-    -- rings over what is near in the shadow plane, from the seed plane, are those of the pair
-    pub pair-rings : (l : List ℕ) → l ≡ grown (h * w) (touch w) (nearIn w h q (seen w st lower) (seen w st shL)) (seen w st seedL) (h * w) → l ≡ pairRings w h q (seen w st lower) (seen w st upper)
-    unfolding pairRings reached nearIn
-    pair-rings l e = e ∙ grown-same (h * w) (touch w) (nearIn w h q (seen w st lower) (seen w st shL)) (reached w h q (seen w st lower) (seen w st upper)) (seen w st seedL) (seeds (seen w st lower) (seen w st upper))
-        (λ p lp. ap (λ (b : Bool). b && near w h q (seen w st lower) p) (scratch-seen w h st z (shadow (seen w st lower) (seen w st upper)) shL shadow-is p lp))
-        (scratch-seen w h st z (seeds (seen w st lower) (seen w st upper)) seedL seeds-are)
+  pub bare-rings : (l : List ℕ) → length l ≡ h * w → ((p : ℕ) → p < h * w → getD l p 0 ≡ 0) → l ≡ pairRings w h q (packed w low) (packed w up)
+  unfolding pairRings reached
+  bare-rings l long zeros = grown-none (h * w) (touch w) (reached w h q (packed w low) (packed w up)) (seeds (packed w low) (packed w up)) l long zeros
+      (inl (λ p lp. ap (λ (b : Bool). b && near w h q (packed w low) p) (no-shadow p lp)))
 
-    pub pair-support : (ring ex out was : List ℕ) → ring ≡ pairRings w h q (seen w st lower) (seen w st upper) → Scratch w h st (λ p. ltb 0 (getD ring p 0)) ex → Framed w h st was
-        → Within 0 ((h + 2) * st) (λ j. keepBit (bitOf shL j) (bitOf ex j) (bitOf lower j) (bitOf was j)) out was → Scratch w h st (pairSupport w h q (seen w st lower) (seen w st upper) (seen w st was)) out
-    unfolding pairSupport
-    pair-support ring ex out was e sx fa wi =
-        scratch-support (shadow (seen w st lower) (seen w st upper)) (λ p. ltb 0 (getD (pairRings w h q (seen w st lower) (seen w st upper)) p 0)) (seen w st lower) (seen w st was) shL ex lower out was
-        shadow-is (subst (λ (r : List ℕ). Scratch w h st (λ p. ltb 0 (getD r p 0)) ex) e sx) (framed-scratch w h st z lower fl) (framed-scratch w h st z was fa) wi
+  pub bare-rest : (s : List ℕ) → Packs w h (λ p. false) s → Packs w h (unexcused w h q (packed w low) (packed w up)) s
+  unfolding unexcused
+  bare-rest s P = packs-same w h lw (λ p. false) (unexcused w h q (packed w low) (packed w up)) s (λ p lp. sym (ap (λ (b : Bool). b && not (ltb 0 (getD (pairRings w h q (packed w low) (packed w up)) p 0))) (no-shadow p lp))) P
 
-  -- no shadow, or no seed: no ring
-  pub bare-rings : (q : ℕ) (low sh seed l : List ℕ) → length l ≡ h * w → ((p : ℕ) → p < h * w → getD l p 0 ≡ 0)
-      → ((p : ℕ) → p < h * w → seen w st sh p ≡ false) ⊎ ((p : ℕ) → p < h * w → seen w st seed p ≡ false) → l ≡ grown (h * w) (touch w) (nearIn w h q (seen w st low) (seen w st sh)) (seen w st seed) (h * w)
-  unfolding nearIn
-  bare-rings q low sh seed l long zeros e = grown-none (h * w) (touch w) (nearIn w h q (seen w st low) (seen w st sh)) (seen w st seed) l long zeros
-      (⊎-elim (λ a. inl (λ p lp. ap (λ (b : Bool). b && near w h q (seen w st low) p) (a p lp))) (λ a. inr a) e)
+-- A pair with shadow, in scratch ----------------------------------------------------------------------------------------
 
-  pub bare-excused : (l ex : List ℕ) → ((p : ℕ) → p < h * w → getD l p 0 ≡ 0) → Drawn w h st (λ p. false) ex → Drawn w h st (λ p. ltb 0 (getD l p 0)) ex
-  bare-excused l ex zeros d = record { long = d .long; is = scratch-same w h st z (λ p. false) (λ p. ltb 0 (getD l p 0)) ex (λ p lp. sym (le-ltb 0 (getD l p 0) (omega (arith, zeros p lp)))) (d .is) }
+module _ (w h st : ℕ) (z : Sizes w h st) (q : ℕ) (low up lower upper shL seedL : List ℕ)
+    (sl : Scratch w h st (packed w low) lower) (su : Scratch w h st (packed w up) upper)
+    (bs : Bits2 ((h + 2) * st) butNot shL upper lower) (be : Bits2 ((h + 2) * st) _&&_ seedL lower upper) where
+  pub shadow-is : Scratch w h st (shadow (packed w low) (packed w up)) shL
+  unfolding shadow
+  shadow-is = scratch-op w h st z butNot (packed w up) (packed w low) shL upper lower refl su sl bs
+
+  pub seeds-are : Scratch w h st (seeds (packed w low) (packed w up)) seedL
+  unfolding seeds
+  seeds-are = scratch-op w h st z _&&_ (packed w low) (packed w up) seedL lower upper refl sl su be
+
+  shadow-at : (p : ℕ) → p < h * w → seen w st shL p ≡ shadow (packed w low) (packed w up) p
+  shadow-at = scratch-seen w h st z (shadow (packed w low) (packed w up)) shL shadow-is
+
+  seed-at : (p : ℕ) → p < h * w → seen w st seedL p ≡ seeds (packed w low) (packed w up) p
+  seed-at = scratch-seen w h st z (seeds (packed w low) (packed w up)) seedL seeds-are
+
+  pub shadow-apart : (x : ℕ) → x < h * w → seen w st shL x ≡ true → seen w st seedL x ≡ true → ⊥
+  unfolding shadow seeds
+  shadow-apart x lx a b = clash (and-l (packed w low x) _ (sym (seed-at x lx) ∙ b)) (not-out (packed w low x) (and-r (packed w up x) _ (sym (shadow-at x lx) ∙ a)))
+
+  pub seed-below : (x : ℕ) → x < h * w → seen w st seedL x ≡ true → seen w st lower x ≡ true
+  unfolding seeds
+  seed-below x lx a = scratch-seen w h st z (packed w low) lower sl x lx ∙ and-l (packed w low x) _ (sym (seed-at x lx) ∙ a)
+
+  -- the rings that were grown are those of the pair
+  pub pair-rings : (l : List ℕ) → l ≡ grown (h * w) (touch w) (nearIn w h q (seen w st lower) (seen w st shL)) (seen w st seedL) (h * w) → l ≡ pairRings w h q (packed w low) (packed w up)
+  unfolding pairRings reached nearIn
+  pair-rings l e = e ∙ grown-same (h * w) (touch w) (nearIn w h q (seen w st lower) (seen w st shL)) (reached w h q (packed w low) (packed w up)) (seen w st seedL) (seeds (packed w low) (packed w up))
+      (λ p lp. ap₂ _&&_ (shadow-at p lp) (near-same w h q (seen w st lower) (packed w low) (packed w up) (packed w up) (scratch-seen w h st z (packed w low) lower sl) (λ o lo. refl) p)) seed-at
+
+  -- what is left of the shadow is unexcused
+  pub rest-is : (ring ex left : List ℕ) → ring ≡ pairRings w h q (packed w low) (packed w up) → Scratch w h st (λ p. ltb 0 (getD ring p 0)) ex → Bits2 ((h + 2) * st) butNot left shL ex
+      → Scratch w h st (unexcused w h q (packed w low) (packed w up)) left
+  unfolding unexcused
+  rest-is ring ex left e sx b =
+      scratch-op w h st z butNot (shadow (packed w low) (packed w up)) (λ p. ltb 0 (getD (pairRings w h q (packed w low) (packed w up)) p 0)) left shL ex refl shadow-is
+      (subst (λ (r : List ℕ). Scratch w h st (λ p. ltb 0 (getD r p 0)) ex) e sx) b

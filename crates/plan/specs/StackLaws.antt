@@ -3,27 +3,26 @@ use mathlib.Core.Path.{_≡_, refl, sym, ap, subst, _∙_}
 use mathlib.Core.Bool.{Bool, true, false, not, _&&_, _||_}
 use mathlib.Core.List.{List}
 use Prim.Native.Nat.{ℕ, suc, _+_, _-_, _*_, _≤_, _<_}
-use native.Mathlib.Nat.{mul-assoc, zero-mul}
+use native.Mathlib.Nat.{mul-assoc, zero-mul, mul-le-mul}
 use native.Mathlib.Numerals.{add-one}
-use native.Mathlib.Decide.{decLt}
+use native.Mathlib.Decide.{decLt, ℕ-discrete}
 use native.Mathlib.Omega.{arith}
 use borrow.Rule.Slice.PartMut.{midOf, putMid}
 use lib.Dec.{ltb, eqb}
-use lib.ListN.{length, getD, take, drop, List·getD-eq-default}
-use lib.Seq.{ext-getD, getD-drop}
+use lib.ListN.{length, getD, set, take, drop, List·getD-eq-default}
+use lib.Seq.{ext-getD, getD-drop, getD-set-same, getD-set-other}
 use Rattle.rules.specs.Images.{paddingSet, Plane, Stack, rowBytes, pixel, bytesOf, ringAt}
 use Rattle.rules.specs.Planning.{shadow, ringPlane, rings, excused, planned, supportUnder, topOf, empty, plannedRings, plannedBytes}
 use Rattle.rules.specs.Tools.{joinedUp}
 use Rattle.laws.specs.Growing.{length-grown}
 use Rattle.laws.specs.Soundness.{getD-joined, rings-length, not-excused, planned-step}
 use Rattle.laws.specs.Tests.{length-each}
-use Rattle.image.specs.Packed.{plane-clean, plane-at, plane-long, plane-pixel, stack-plane, bytes-same}
-use Rattle.image.specs.Planes.{row-fits, row-next, scratch-same, scratch-seen}
-use Rattle.image.specs.Rows.{Clean, packed, planeBytes, plane, OnlyPlane}
-use Rattle.image.specs.Scratch.{Sizes, seen, Drawn}
+use Rattle.image.specs.Packed.{plane-clean, plane-at, plane-long, plane-pixel, plane-bytes, stack-plane}
+use Rattle.image.specs.Planes.{row-fits, row-next}
+use Rattle.image.specs.Rows.{Clean, Packs, packed, planeBytes, plane, OnlyPlane}
 use Rattle.image.specs.Stretches.{put-plane, put-only}
-use Rattle.plan.specs.PairLaws.{rings-same, support-same}
-use Rattle.plan.specs.Pairs.{pairRings, pairSupport}
+use Rattle.plan.specs.PairLaws.{rings-same, support-same, packs-same}
+use Rattle.plan.specs.Pairs.{pairRings, unexcused, pairSupport}
 use Rattle.plan.specs.Stacks.{From, plannedStack, Down}
 
 -- Lists that agree from some place on -----------------------------------------------------------------------------------
@@ -33,6 +32,13 @@ from-end a xs ys lx ly x h = List·getD-eq-default xs 0 (omega arith) ∙ sym (L
 
 pub from-all : (xs ys : List ℕ) → length xs ≡ length ys → From 0 xs ys → xs ≡ ys
 from-all xs ys e f = ext-getD 0 xs ys e (λ i h. f i (omega arith))
+
+-- one place more of a copy
+pub put-more : (to from : List ℕ) (i : ℕ) → i < length to → ((k : ℕ) → k < i → getD to k 0 ≡ getD from k 0) → (k : ℕ) → k < i + 1 → getD (set to i (getD from i 0)) k 0 ≡ getD from k 0
+put-more to from i li f k lk = elim (ℕ-discrete k i) [
+  | yes e ↦ subst (λ (x : ℕ). getD (set to i (getD from i 0)) x 0 ≡ getD from x 0) (sym e) (getD-set-same to i (getD from i 0) 0 li)
+  | no e ↦ getD-set-other to i k (getD from i 0) 0 e ∙ f k (omega arith)
+]
 
 -- one plane more
 pub from-more : (size i : ℕ) (xs' xs ys : List ℕ) → OnlyPlane size i xs' xs → From ((i + 1) * size) xs ys → plane size i xs' ≡ plane size i ys → From (i * size) xs' ys
@@ -95,7 +101,7 @@ module _ (w h n q : ℕ) (part : List ℕ) where
 
   pub support-step : (i p : ℕ) → suc i < n → p < h * w →
       plannedStack w h n q part i p ≡ pairSupport w h q (pixel w h part i) (pixel w h part (suc i)) (plannedStack w h n q part (suc i)) p
-  unfolding pairSupport empty excused
+  unfolding pairSupport unexcused empty excused
   support-step i p l lp =
       let ring = ringAt w h (plannedRings w h n (λ k. q) part) in
       planned-step w h n (λ k. q) (pixel w h part) empty ring i p l
@@ -109,66 +115,64 @@ module _ (w h n q : ℕ) (part : List ℕ) where
 
 -- Going down ------------------------------------------------------------------------------------------------------------
 
-module _ (w h st n q : ℕ) (z : Sizes w h st) (part : List ℕ) (long : length part ≡ n * h * rowBytes w) where
+module _ (w h n q : ℕ) (lw : 0 < w) (part : List ℕ) (long : length part ≡ n * h * rowBytes w) where
   layer-pixel : (i p : ℕ) → p < h * w → packed w (plane (h * rowBytes w) i part) p ≡ pixel w h part i p
-  layer-pixel i p lp = plane-pixel w h n part long (z .w-min) i p lp
+  layer-pixel i p lp = plane-pixel w h n part long lw i p lp
 
   layer-bytes : (i : ℕ) → i < n → plane (h * rowBytes w) i (plannedBytes w h n (λ k. q) part) ≡ planeBytes w h (plannedStack w h n q part i)
   unfolding plannedBytes
   layer-bytes i li = stack-plane w h n (plannedStack w h n q part) i li
 
+  -- a plane that packs what is planned for layer i is its bytes
+  planned-plane : (i : ℕ) (s : List ℕ) → i < n → ((b : ℕ) → getD s b 0 < 256) → Packs w h (plannedStack w h n q part i) s → s ≡ plane (h * rowBytes w) i (plannedBytes w h n (λ k. q) part)
+  planned-plane i s li small P = plane-bytes w h (plannedStack w h n q part i) s (P .clean) small (P .pixels) ∙ sym (layer-bytes i li)
+
   -- the top layer has no support
-  pub down-start : (support support' rings upper' above' : List ℕ) → 0 < n → length support ≡ n * h * rowBytes w → length rings ≡ (n - 1) * (h * w)
-      → OnlyPlane (h * rowBytes w) (n - 1) support' support → plane (h * rowBytes w) (n - 1) support' ≡ planeBytes w h (λ p. false)
-      → Drawn w h st (packed w (plane (h * rowBytes w) (n - 1) part)) upper' → Drawn w h st (λ p. false) above'
-      → Down w h st n q (n - 1) part support' rings upper' above'
-  down-start support support' rings upper' above' ln ls lr o e u a =
+  pub down-start : (support support' rings above : List ℕ) → 0 < n → length support ≡ n * h * rowBytes w → length rings ≡ (n - 1) * (h * w)
+      → OnlyPlane (h * rowBytes w) (n - 1) support' support → plane (h * rowBytes w) (n - 1) support' ≡ above
+      → ((b : ℕ) → getD above b 0 < 256) → Packs w h (λ p. false) above → Down w h n q (n - 1) part support' rings above
+  down-start support support' rings above ln ls lr o e small a =
       let size : ℕ = h * rowBytes w in
-      let top : (n - 1 + 1) * size ≡ n * size = ap (λ (x : ℕ). x * size) (omega arith) in
+      let A : Packs w h (plannedStack w h n q part (n - 1)) above = packs-same w h lw (λ p. false) (plannedStack w h n q part (n - 1)) above (λ p lp. sym (support-top w h n q part p ln)) a in
       record {
         support-done = from-more size (n - 1) support' support (plannedBytes w h n (λ k. q) part) o
-            (from-end ((n - 1 + 1) * size) support (plannedBytes w h n (λ k. q) part) (omega (arith, mul-assoc n h (rowBytes w))) (omega (arith, length-bytes w h n q part, mul-assoc n h (rowBytes w))))
-            (e ∙ bytes-same w h (λ p. false) (plannedStack w h n q part (n - 1)) (λ p lp. sym (support-top w h n q part p ln)) ∙ sym (layer-bytes (n - 1) (omega arith)));
+            (from-end ((n - 1 + 1) * size) support (plannedBytes w h n (λ k. q) part) (omega (arith, top, mul-assoc n h (rowBytes w))) (omega (arith, top, length-bytes w h n q part, mul-assoc n h (rowBytes w))))
+            (e ∙ planned-plane (n - 1) above (omega arith) small A);
         rings-done = from-end ((n - 1) * (h * w)) rings (plannedRings w h n (λ k. q) part) (omega arith) (omega (arith, length-rings w h n q part));
-        upper-is = record { long = u .long; is = scratch-same w h st z _ _ upper' (layer-pixel (n - 1)) (u .is) };
-        above-is = record { long = a .long; is = scratch-same w h st z _ _ above' (λ p lp. sym (support-top w h n q part p ln)) (a .is) };
+        above-is = A;
       }
+    where
+      top : (n - 1 + 1) * (h * rowBytes w) ≡ n * (h * rowBytes w)
+      top = ap (λ (x : ℕ). x * (h * rowBytes w)) (omega arith)
 
   -- one layer more
-  module _ (i : ℕ) (support support' rings rings' upper upper' above above' : List ℕ) (li : suc i < n)
-      (D : Down w h st n q (i + 1) part support rings upper above) where
-    layer : Plane
-    layer = packed w (plane (h * rowBytes w) i part)
-
-    up-same : (p : ℕ) → p < h * w → seen w st upper p ≡ pixel w h part (suc i) p
-    up-same p lp = scratch-seen w h st z (pixel w h part (i + 1)) upper (D .upper-is .is) p lp ∙ ap (λ (x : ℕ). pixel w h part x p) (add-one i)
-
-    above-same : (p : ℕ) → p < h * w → seen w st above p ≡ plannedStack w h n q part (suc i) p
-    above-same p lp = scratch-seen w h st z (plannedStack w h n q part (i + 1)) above (D .above-is .is) p lp ∙ ap (λ (x : ℕ). plannedStack w h n q part x p) (add-one i)
-
-    layer-support : (p : ℕ) → p < h * w → pairSupport w h q (packed w (plane (h * rowBytes w) i part)) (seen w st upper) (seen w st above) p ≡ plannedStack w h n q part i p
+  module _ (i : ℕ) (support support' rings rings' above above' : List ℕ) (li : suc i < n) (D : Down w h n q (i + 1) part support rings above) where
+    layer-support : (p : ℕ) → p < h * w
+        → pairSupport w h q (packed w (plane (h * rowBytes w) i part)) (packed w (plane (h * rowBytes w) (suc i) part)) (packed w above) p ≡ plannedStack w h n q part i p
     layer-support p lp =
-        support-same w h q (packed w (plane (h * rowBytes w) i part)) (pixel w h part i) (seen w st upper) (pixel w h part (suc i)) (layer-pixel i) up-same (seen w st above) (plannedStack w h n q part (suc i)) above-same p lp
+        support-same w h q (packed w (plane (h * rowBytes w) i part)) (pixel w h part i) (packed w (plane (h * rowBytes w) (suc i) part)) (pixel w h part (suc i)) (layer-pixel i) (layer-pixel (suc i)) (packed w above) (plannedStack w h n q part (suc i))
+        (λ o lo. D .above-is .pixels o lo ∙ ap (λ (x : ℕ). plannedStack w h n q part x o) (add-one i)) p lp
         ∙ sym (support-step w h n q part i p li lp)
 
     pub down-more : OnlyPlane (h * rowBytes w) i support' support → OnlyPlane (h * w) i rings' rings
-        → plane (h * rowBytes w) i support' ≡ planeBytes w h (pairSupport w h q (packed w (plane (h * rowBytes w) i part)) (seen w st upper) (seen w st above))
-        → plane (h * w) i rings' ≡ pairRings w h q (packed w (plane (h * rowBytes w) i part)) (seen w st upper)
-        → Drawn w h st (packed w (plane (h * rowBytes w) i part)) upper'
-        → Drawn w h st (pairSupport w h q (packed w (plane (h * rowBytes w) i part)) (seen w st upper) (seen w st above)) above'
-        → Down w h st n q i part support' rings' upper' above'
-    down-more os or es er u a = record {
-      support-done = from-more (h * rowBytes w) i support' support (plannedBytes w h n (λ k. q) part) os (D .support-done) (es ∙ bytes-same w h _ _ layer-support ∙ sym (layer-bytes i (omega arith)));
-      rings-done = from-more (h * w) i rings' rings (plannedRings w h n (λ k. q) part) or (D .rings-done)
-          (er ∙ rings-same w h q (packed w (plane (h * rowBytes w) i part)) (pixel w h part i) (seen w st upper) (pixel w h part (suc i)) (layer-pixel i) up-same ∙ sym (rings-plane w h n q part i li));
-      upper-is = record { long = u .long; is = scratch-same w h st z _ _ upper' (layer-pixel i) (u .is) };
-      above-is = record { long = a .long; is = scratch-same w h st z _ _ above' layer-support (a .is) };
-    }
+        → plane (h * rowBytes w) i support' ≡ above'
+        → plane (h * w) i rings' ≡ pairRings w h q (packed w (plane (h * rowBytes w) i part)) (packed w (plane (h * rowBytes w) (suc i) part))
+        → ((b : ℕ) → getD above' b 0 < 256)
+        → Packs w h (pairSupport w h q (packed w (plane (h * rowBytes w) i part)) (packed w (plane (h * rowBytes w) (suc i) part)) (packed w above)) above'
+        → Down w h n q i part support' rings' above'
+    down-more os or es er small a =
+        let A : Packs w h (plannedStack w h n q part i) above' = packs-same w h lw _ (plannedStack w h n q part i) above' layer-support a in
+        record {
+          support-done = from-more (h * rowBytes w) i support' support (plannedBytes w h n (λ k. q) part) os (D .support-done) (es ∙ planned-plane i above' (omega arith) small A);
+          rings-done = from-more (h * w) i rings' rings (plannedRings w h n (λ k. q) part) or (D .rings-done)
+              (er ∙ rings-same w h q (packed w (plane (h * rowBytes w) i part)) (pixel w h part i) (packed w (plane (h * rowBytes w) (suc i) part)) (pixel w h part (suc i)) (layer-pixel i) (layer-pixel (suc i)) ∙ sym (rings-plane w h n q part i li));
+          above-is = A;
+        }
 
   -- the lowest layer is reached
-  pub down-end : (support rings upper above : List ℕ) → length support ≡ n * h * rowBytes w → length rings ≡ (n - 1) * (h * w) → Down w h st n q 0 part support rings upper above
+  pub down-end : (support rings above : List ℕ) → length support ≡ n * h * rowBytes w → length rings ≡ (n - 1) * (h * w) → Down w h n q 0 part support rings above
       → (support ≡ plannedBytes w h n (λ k. q) part) × (rings ≡ plannedRings w h n (λ k. q) part)
-  down-end support rings upper above ls lr D = (
+  down-end support rings above ls lr D = (
     from-all support (plannedBytes w h n (λ k. q) part) (ls ∙ sym (length-bytes w h n q part)) (λ x l. D .support-done x (omega (arith, zero-mul (h * rowBytes w)))),
     from-all rings (plannedRings w h n (λ k. q) part) (lr ∙ sym (length-rings w h n q part)) (λ x l. D .rings-done x (omega (arith, zero-mul (h * w)))),
   )
@@ -178,77 +182,89 @@ module _ (w h st n q : ℕ) (z : Sizes w h st) (part : List ℕ) (long : length 
 pub layer-room : (w h n size i len : ℕ) → size ≡ h * rowBytes w → len ≡ n * h * rowBytes w → i < n → i * size + size ≤ len
 layer-room w h n size i len es el li = omega (arith, row-fits i n size li, mul-assoc n h (rowBytes w), ap (λ (x : ℕ). n * x) es)
 
+pub up-room : (w h n size i len : ℕ) → size ≡ h * rowBytes w → len ≡ n * h * rowBytes w → suc i < n → i * size + size + size ≤ len
+up-room w h n size i len es el li = omega (arith, row-next i size, layer-room w h n size (i + 1) len es el (omega arith))
+
+pub area-max : (w h : ℕ) → w ≤ 256 → h ≤ 256 → h * w ≤ 65536
+area-max w h a b = mul-le-mul b a
+
 pub ring-room : (w h n area i len : ℕ) → area ≡ h * w → len ≡ (n - 1) * (h * w) → suc i < n → i * area + area ≤ len
 ring-room w h n area i len es el li = omega (arith, row-fits i (n - 1) area (omega arith), ap (λ (x : ℕ). (n - 1) * x) es)
 
--- what is lent of layer i
-pub lent-part : (w h n size i : ℕ) (part : List ℕ) → size ≡ h * rowBytes w → length part ≡ n * h * rowBytes w → paddingSet w (n * h) part ≡ false → i < n → Clean w h (take (i * size + size - i * size) (drop (i * size) part))
-lent-part w h n size i part es el pad li =
-    let k : i * size + size - i * size ≡ size = omega arith in
-    rw (k, es) (plane-clean w h n part el pad i li)
+-- what is lent of the part: the stretches of layer i and of the layer above it, as the code cuts them
+abbrev pub cutLow : ℕ → ℕ → List ℕ → List ℕ
+cutLow size i part = take (i * size + size - i * size) (drop (i * size) part)
 
-pub lent-support : (w h n size i : ℕ) (s : List ℕ) → size ≡ h * rowBytes w → length s ≡ n * h * rowBytes w → i < n → length (take (i * size + size - i * size) (drop (i * size) s)) ≡ h * rowBytes w
+abbrev pub cutUp : ℕ → ℕ → List ℕ → List ℕ
+cutUp size i part = take (i * size + size + size - (i * size + size)) (drop (i * size + size) part)
+
+low-plane : (size i : ℕ) (part : List ℕ) → cutLow size i part ≡ plane size i part
+low-plane size i part = let e : i * size + size - i * size ≡ size = omega arith in ap (λ (k : ℕ). take k (drop (i * size) part)) e
+
+up-plane : (size i : ℕ) (part : List ℕ) → cutUp size i part ≡ plane size (suc i) part
+up-plane size i part =
+    let e : i * size + size + size - (i * size + size) ≡ size = omega arith in
+    ap (λ (k : ℕ). take k (drop (i * size + size) part)) e
+    ∙ ap (λ (a : ℕ). take size (drop a part)) (sym (row-next i size) ∙ ap (λ (x : ℕ). x * size) (add-one i))
+
+module _ (w h n size i : ℕ) (part : List ℕ) (es : size ≡ h * rowBytes w) (long : length part ≡ n * h * rowBytes w) (pad : paddingSet w (n * h) part ≡ false) (li : suc i < n) where
+  pub lent-low : Clean w h (cutLow size i part)
+  lent-low = subst (Clean w h) (sym (low-plane size i part ∙ ap (λ (x : ℕ). plane x i part) es)) (plane-clean w h n part long pad i (omega arith))
+
+  pub lent-up : Clean w h (cutUp size i part)
+  lent-up = subst (Clean w h) (sym (up-plane size i part ∙ ap (λ (x : ℕ). plane x (suc i) part) es)) (plane-clean w h n part long pad (suc i) li)
+
+pub lent-rings : (w h n i : ℕ) (s : List ℕ) → length s ≡ (n - 1) * (h * w) → suc i < n → length (take (i * (h * w) + h * w - i * (h * w)) (drop (i * (h * w)) s)) ≡ h * w
+lent-rings w h n i s el li = ap length (low-plane (h * w) i s) ∙ plane-long (h * w) i (n - 1) s el (omega arith)
+
+pub lent-support : (w h n size i : ℕ) (s : List ℕ) → size ≡ h * rowBytes w → length s ≡ n * h * rowBytes w → i < n → length (cutLow size i s) ≡ h * rowBytes w
 lent-support w h n size i s es el li =
-    let k : i * size + size - i * size ≡ size = omega arith in
-    rw (k, es) (plane-long (h * rowBytes w) i n s (el ∙ mul-assoc n h (rowBytes w)) li)
+    ap length (low-plane size i s ∙ ap (λ (x : ℕ). plane x i s) es) ∙ plane-long (h * rowBytes w) i n s (el ∙ mul-assoc n h (rowBytes w)) li
 
-pub lent-rings : (w h n area i : ℕ) (s : List ℕ) → area ≡ h * w → length s ≡ (n - 1) * (h * w) → suc i < n → length (take (i * area + area - i * area) (drop (i * area) s)) ≡ h * w
-lent-rings w h n area i s es el li =
-    let k : i * area + area - i * area ≡ area = omega arith in
-    rw (k, es) (plane-long (h * w) i (n - 1) s el (omega arith))
+-- layer i, worked on in its stretches: above' is its support, and rs are its rings
+module _ (w h n q : ℕ) (lw : 0 < w) (part : List ℕ) (long : length part ≡ n * h * rowBytes w)
+    (i : ℕ) (support rings above above' rs : List ℕ) (li : suc i < n)
+    (ls : length support ≡ n * h * rowBytes w) (lr : length rings ≡ (n - 1) * (h * w)) (D : Down w h n q (i + 1) part support rings above) where
+  abbrev LayerDone : ℕ → Type 0
+  LayerDone size =
+      length above' ≡ length (midOf (i * size) (i * size + size - i * size) support) → length rs ≡ length (midOf (i * (h * w)) (i * (h * w) + h * w - i * (h * w)) rings)
+      → rs ≡ pairRings w h q (packed w (cutLow size i part)) (packed w (cutUp size i part)) → ((b : ℕ) → getD above' b 0 < 256)
+      → Packs w h (pairSupport w h q (packed w (cutLow size i part)) (packed w (cutUp size i part)) (packed w above)) above'
+      → Down w h n q i part (putMid (i * size) (i * size + size - i * size) support above') (putMid (i * (h * w)) (i * (h * w) + h * w - i * (h * w)) rings rs) above'
 
--- layer i, worked on in its stretches: ys and rs are what the layer routine left in them
-module _ (w h st n q : ℕ) (z : Sizes w h st) (part : List ℕ) (long : length part ≡ n * h * rowBytes w)
-    (i : ℕ) (support rings upper upper' above above' ys rs : List ℕ) (li : suc i < n)
-    (ls : length support ≡ n * h * rowBytes w) (lr : length rings ≡ (n - 1) * (h * w)) (D : Down w h st n q (i + 1) part support rings upper above) where
-  abbrev LayerDone : ℕ → ℕ → Type 0
-  LayerDone size area =
-      length ys ≡ length (midOf (i * size) (i * size + size - i * size) support) → length rs ≡ length (midOf (i * area) (i * area + area - i * area) rings)
-      → rs ≡ pairRings w h q (packed w (take (i * size + size - i * size) (drop (i * size) part))) (seen w st upper)
-      → ys ≡ planeBytes w h (pairSupport w h q (packed w (take (i * size + size - i * size) (drop (i * size) part))) (seen w st upper) (seen w st above))
-      → Drawn w h st (packed w (take (i * size + size - i * size) (drop (i * size) part))) upper'
-      → Drawn w h st (pairSupport w h q (packed w (take (i * size + size - i * size) (drop (i * size) part))) (seen w st upper) (seen w st above)) above'
-      → Down w h st n q i part (putMid (i * size) (i * size + size - i * size) support ys) (putMid (i * area) (i * area + area - i * area) rings rs) upper' above'
-
-  layer-done-at : LayerDone (h * rowBytes w) (h * w)
-  layer-done-at =
+  layer-done-at : LayerDone (h * rowBytes w)
+  layer-done-at ly lr' er small a =
       let size : ℕ = h * rowBytes w in
       let area : ℕ = h * w in
-      let es : i * size + size - i * size ≡ size = omega arith in
+      let el = low-plane size i part in
+      let eu = up-plane size i part in
       let room : (i + 1) * size ≤ length support = omega (arith, row-next i size, layer-room w h n size i (length support) refl ls (omega arith)) in
       let roomr : (i + 1) * area ≤ length rings = omega (arith, row-next i area, ring-room w h n area i (length rings) refl lr li) in
-      λ ly lr' er ey u a.
-      let f : ℕ → Plane = λ k. packed w (take k (drop (i * size) part)) in
-      down-more w h st n q z part long i support (putMid (i * size) (i * size + size - i * size) support ys) rings (putMid (i * area) (i * area + area - i * area) rings rs) upper upper' above above' li D
-      (put-only size i support ys room ly) (put-only area i rings rs roomr lr')
-      (put-plane size i support ys room ly ∙ subst (λ (k : ℕ). ys ≡ planeBytes w h (pairSupport w h q (f k) (seen w st upper) (seen w st above))) es ey)
-      (put-plane area i rings rs roomr lr' ∙ subst (λ (k : ℕ). rs ≡ pairRings w h q (f k) (seen w st upper)) es er)
-      (subst (λ (k : ℕ). Drawn w h st (f k) upper') es u)
-      (subst (λ (k : ℕ). Drawn w h st (pairSupport w h q (f k) (seen w st upper) (seen w st above)) above') es a)
+      down-more w h n q lw part long i support (putMid (i * size) (i * size + size - i * size) support above') rings (putMid (i * area) (i * area + area - i * area) rings rs) above above' li D
+      (put-only size i support above' room ly) (put-only area i rings rs roomr lr')
+      (put-plane size i support above' room ly)
+      (put-plane area i rings rs roomr lr'
+      ∙ subst (λ (x : List ℕ). rs ≡ pairRings w h q (packed w x) (packed w (plane size (suc i) part))) el (subst (λ (y : List ℕ). rs ≡ pairRings w h q (packed w (cutLow size i part)) (packed w y)) eu er))
+      small
+      (subst (λ (x : List ℕ). Packs w h (pairSupport w h q (packed w x) (packed w (plane size (suc i) part)) (packed w above)) above') el
+      (subst (λ (y : List ℕ). Packs w h (pairSupport w h q (packed w (cutLow size i part)) (packed w y) (packed w above)) above') eu a))
 
-  pub layer-done : (size area : ℕ) → size ≡ h * rowBytes w → area ≡ h * w → LayerDone size area
-  layer-done size area es ea = subst (λ (x : ℕ). LayerDone x area) (sym es) (subst (λ (y : ℕ). LayerDone (h * rowBytes w) y) (sym ea) layer-done-at)
+  pub layer-done : (size : ℕ) → size ≡ h * rowBytes w → LayerDone size
+  layer-done size es = subst LayerDone (sym es) layer-done-at
 
 -- the top layer, worked on in its stretch
-module _ (w h n : ℕ) (part support ys : List ℕ) (ln : 0 < n) (ls : length support ≡ n * h * rowBytes w) where
+module _ (w h n : ℕ) (support ys : List ℕ) (ln : 0 < n) (ls : length support ≡ n * h * rowBytes w) where
   abbrev TopDone : ℕ → Type 0
   TopDone size =
       length ys ≡ length (midOf ((n - 1) * size) ((n - 1) * size + size - (n - 1) * size) support)
-      → ys ≡ planeBytes w h (λ p. false)
-      → (plane (h * rowBytes w) (n - 1) (putMid ((n - 1) * size) ((n - 1) * size + size - (n - 1) * size) support ys) ≡ planeBytes w h (λ p. false))
+      → (plane (h * rowBytes w) (n - 1) (putMid ((n - 1) * size) ((n - 1) * size + size - (n - 1) * size) support ys) ≡ ys)
       × OnlyPlane (h * rowBytes w) (n - 1) (putMid ((n - 1) * size) ((n - 1) * size + size - (n - 1) * size) support ys) support
 
   top-done-at : TopDone (h * rowBytes w)
-  top-done-at ly ey =
+  top-done-at ly =
       let size : ℕ = h * rowBytes w in
       let room : (n - 1 + 1) * size ≤ length support = omega (arith, row-next (n - 1) size, layer-room w h n size (n - 1) (length support) refl ls (omega arith)) in
-      (put-plane size (n - 1) support ys room ly ∙ ey, put-only size (n - 1) support ys room ly)
+      (put-plane size (n - 1) support ys room ly, put-only size (n - 1) support ys room ly)
 
   pub top-done : (size : ℕ) → size ≡ h * rowBytes w → TopDone size
   top-done size es = subst TopDone (sym es) top-done-at
-
-  pub top-part : (st size : ℕ) (upper' : List ℕ) → size ≡ h * rowBytes w → Drawn w h st (packed w (take ((n - 1) * size + size - (n - 1) * size) (drop ((n - 1) * size) part))) upper'
-      → Drawn w h st (packed w (plane (h * rowBytes w) (n - 1) part)) upper'
-  top-part st size upper' es d =
-      let k : (n - 1) * size + size - (n - 1) * size ≡ size = omega arith in
-      subst (λ (x : ℕ). Drawn w h st (packed w (take x (drop ((n - 1) * x) part))) upper') es (subst (λ (x : ℕ). Drawn w h st (packed w (take x (drop ((n - 1) * size) part))) upper') k d)

@@ -1,11 +1,19 @@
 -- Planning a stack from the top down: what is done when it has come down to a layer.
 use mathlib.Core.Path.{_≡_}
+use mathlib.Core.Bool.{false}
 use mathlib.Core.List.{List}
-use Prim.Native.Nat.{ℕ, _*_, _≤_}
-use lib.ListN.{getD}
-use Rattle.rules.specs.Images.{Stack, rowBytes, pixel, ringAt}
+use Prim.Native.Nat.{ℕ, _-_, _*_, _≤_}
+use lib.ListN.{getD, length}
+use Rattle.rules.specs.Images.{Stack, rowBytes, pixel, ringAt, paddingSet}
 use Rattle.rules.specs.Planning.{planned, empty, plannedRings, plannedBytes}
-use Rattle.image.specs.Scratch.{Drawn}
+use Rattle.image.specs.Rows.{Packs}
+
+-- the buffers of a stack: a part without padding bits, and room for its support and its rings
+pub record Buffers (w h n : ℕ) (part support rings : List ℕ) : Type 0 where
+  pub part-long : length part ≡ n * h * rowBytes w
+  pub clean : paddingSet w (n * h) part ≡ false
+  pub support-long : length support ≡ n * h * rowBytes w
+  pub rings-long : length rings ≡ (n - 1) * (h * w)
 
 -- from place a on, xs is ys
 abbrev pub From : ℕ → List ℕ → List ℕ → Type 0
@@ -15,10 +23,8 @@ From a xs ys = (x : ℕ) → a ≤ x → getD xs x 0 ≡ getD ys x 0
 abbrev pub plannedStack : ℕ → ℕ → ℕ → ℕ → List ℕ → Stack
 plannedStack w h n q part = planned n (pixel w h part) empty (ringAt w h (plannedRings w h n (λ k. q) part))
 
--- the layers from i on are planned: their support, the rings of the pairs from i on, and in scratch layer i of the part and of
--- the support
-pub record Down (w h st n q i : ℕ) (part support rings upper above : List ℕ) : Type 0 where
+-- the layers from i on are planned: their support, the rings of the pairs from i on; and the support of layer i stands in above
+pub record Down (w h n q i : ℕ) (part support rings above : List ℕ) : Type 0 where
   pub support-done : From (i * (h * rowBytes w)) support (plannedBytes w h n (λ k. q) part)
   pub rings-done : From (i * (h * w)) rings (plannedRings w h n (λ k. q) part)
-  pub upper-is : Drawn w h st (pixel w h part i) upper
-  pub above-is : Drawn w h st (plannedStack w h n q part i) above
+  pub above-is : Packs w h (plannedStack w h n q part i) above

@@ -1,96 +1,104 @@
-use Rattle.image.specs.Planes.{size-max, zero-ready}
-use Rattle.grow.specs.FreeLaws.{free-is, free-apart, free-rings}
+use mathlib.Core.Path.{_∙_}
 use native.Mathlib.Omega.{arith}
 use borrow.Author.Needs.{needs}
+use Rattle.laws.specs.Waves.{near-itself}
+use Rattle.image.specs.Planes.{zero-ready, scratch-seen}
+use Rattle.image.specs.Scratch.{seen}
+use Rattle.grow.specs.EndLaws.{near-free, near-twice}
+use Rattle.grow.specs.FreeLaws.{free-apart}
+use Rattle.grow.specs.Rings.{nearIn}
 use Rattle.grow.proofs.rings.Statement.{statement}
 use Rattle.grow.proofs.rings.Tie as tie
-use Rattle.grow.proofs.rings.Reads as reads
-use Rattle.grow.proofs.rings.Lts as lts
-use Rattle.grow.proofs.over.Reads as over-reads
-use Rattle.image.proofs.nearness.near_plane.Reads as near-plane-reads
-use Rattle.image.proofs.planes.both.Reads as both-reads
 
--- src/lib.rt:66:40
-slice-aggregate-near-plane : tie.Need-slice-aggregate-near-plane
-slice-aggregate-near-plane c = search needs
+slice-aggregate-near-in : tie.Need-slice-aggregate-near-in
+slice-aggregate-near-in c = search needs
 
--- src/lib.rt:66:5
-near-plane-requires : tie.Need-near-plane-requires
-near-plane-requires c κs = (c .before .before .before .before .before .before .pre .0, (c .before .before .before .before .before .before .pre .1 .0 .0, zero-ready (c .before .before .before .before .before .before .args .w) (c .before .before .before .before .before .before .args .h) (c .before .before .before .before .before .before .args .st), c .before .before .before .before .before .before .pre .1 .1 .0))
+near-in-requires : tie.Need-near-in-requires
+near-in-requires c κs = let A = c .before .before .before .before .before .before .before .args in let P = c .before .before .before .before .before .before .before .pre in (P .0, (P .1 .0 .0, P .1 .0 .1, zero-ready (A .w) (A .h) (A .st), P .1 .1 .0))
 
--- src/lib.rt:68:33
-slice-aggregate-both : tie.Need-slice-aggregate-both
-slice-aggregate-both c = search needs
-
--- src/lib.rt:68:41
-slice-aggregate-both-2 : tie.Need-slice-aggregate-both-2
-slice-aggregate-both-2 c = search needs
-
--- src/lib.rt:68:53
-add-both : tie.Need-add-both
-add-both c = search needs
-
--- src/lib.rt:68:52
-mul-both : tie.Need-mul-both
-mul-both c = omega (arith, size-max (c .before .before .before .before .before .before .before .before .before .before .args .w) (c .before .before .before .before .before .before .before .before .before .before .args .h) (c .before .before .before .before .before .before .before .before .before .before .args .st) (c .before .before .before .before .before .before .before .before .before .before .pre .0))
-
--- src/lib.rt:68:5
-both-requires : tie.Need-both-requires
-both-requires c κs = omega (arith, size-max (c .before .before .before .before .before .before .before .before .before .before .args .w) (c .before .before .before .before .before .before .before .before .before .before .args .h) (c .before .before .before .before .before .before .before .before .before .before .args .st) (c .before .before .before .before .before .before .before .before .before .before .pre .0), c .before .before .before .before .before .before .before .before .before .before .pre .1 .0 .1 .long, c .before .before .before .near-plane .ensures .long, zero-ready (c .before .before .before .before .before .before .before .before .before .before .args .w) (c .before .before .before .before .before .before .before .before .before .before .args .h) (c .before .before .before .before .before .before .before .before .before .before .args .st) .long)
-
--- src/lib.rt:69:10
 slice-aggregate-over : tie.Need-slice-aggregate-over
 slice-aggregate-over c = search needs
 
--- src/lib.rt:69:5
 over-requires : tie.Need-over-requires
 over-requires c κs =
-    let A = c .before .before .before .before .before .before .before .before .before .before .before .before .before .before .before .args in
-    let P = c .before .before .before .before .before .before .before .before .before .before .before .before .before .before .before .pre in
-    let N = c .before .before .before .before .before .before .before .before .near-plane in
-    let B = c .before .before .before .before .both in
-    let free′ = B .last .1 .1 .0 in
-    let F = free-is (A .w) (A .h) (A .st) (P .0) (A .q) (A .lower .now) (A .shadow .now) (N .last .1 .0) free′ (P .1 .0 .1 .framed) (N .ensures .is) (B .ensures) in (
+    let A = c .before .before .before .before .before .before .before .before .before .before .before .before .args in
+    let P = c .before .before .before .before .before .before .before .before .before .before .before .before .pre in
+    let Q = P .1 .0 in
+    let N = c .before .before .before .before .near-in in
+    let free = N .last .1 .1 .0 in (
       P .0,
       (
-        (record { long = omega (arith, zero-ready (A .w) (A .h) (A .st) .long, B .kept .1 .1 .0); framed = F .rest }, P .1 .0 .2, P .1 .0 .3, P .1 .0 .4),
-        free-apart (A .w) (A .h) (A .st) (P .0) (A .q) (A .lower .now) (A .shadow .now) (A .seed .now) free′ F (P .1 .1 .1 .0),
+        (Q .0, record { long = N .ensures .long; framed = N .ensures .is .rest }, Q .2, Q .3, Q .4),
+        (
+          (P .1 .1 .0, omega arith, omega arith),
+          (
+            free-apart (A .w) (A .h) (A .st) (P .0) (A .q) (A .lower .now) (A .shadow .now) (A .seed .now) free (N .ensures .is) (P .1 .1 .1 .0),
+            near-free (A .w) (A .h) (A .st) (A .q) 4 (P .0) (A .lower .now) (A .shadow .now) free (A .seed .now) (N .ensures .is),
+          ),
+        ),
       ),
     )
 
--- src/lib.rt:44:1
 same-length : tie.Need-same-length
 same-length c = search needs
 
--- src/lib.rt:44:1
 same-length-2 : tie.Need-same-length-2
 same-length-2 c = search needs
 
--- src/lib.rt:44:1
 returns : tie.Need-returns
 returns c =
-    let A = c .before .before .before .before .before .before .before .before .before .before .before .before .before .before .before .before .before .before .before .before .args in
-    let P = c .before .before .before .before .before .before .before .before .before .before .before .before .before .before .before .before .before .before .before .before .pre in
-    let N = c .before .before .before .before .before .before .before .before .before .before .before .before .before .near-plane in
-    let B = c .before .before .before .before .before .before .before .before .before .both in
-    let R = c .before .before .before .before .over in
-    let free′ = B .last .1 .1 .0 in
-    let F = free-is (A .w) (A .h) (A .st) (P .0) (A .q) (A .lower .now) (A .shadow .now) (N .last .1 .0) free′ (P .1 .0 .1 .framed) (N .ensures .is) (B .ensures) in
-    (free-rings (A .w) (A .h) (A .st) (P .0) (A .q) (A .lower .now) (A .shadow .now) (A .seed .now) free′ (R .last .1 .1 .0) F (R .ensures .0), R .ensures .1)
+    let A = c .before .before .before .before .before .before .before .before .before .before .before .before .before .before .before .before .before .args in
+    let P = c .before .before .before .before .before .before .before .before .before .before .before .before .before .before .before .before .before .pre in
+    let N = c .before .before .before .before .before .before .before .before .before .near-in in
+    let O = c .before .before .before .before .over in
+    let low = seen (A .w) (A .st) (A .lower .now) in
+    let sh = seen (A .w) (A .st) (A .shadow .now) in
+    let free = N .last .1 .1 .0 in
+    (O .ensures .0 ∙ near-twice (A .w) (A .h) (A .q) low sh (seen (A .w) (A .st) (A .seed .now)) (seen (A .w) (A .st) free) (scratch-seen (A .w) (A .h) (A .st) (P .0) (nearIn (A .w) (A .h) (A .q) low sh) free (N .ensures .is)), O .ensures .1)
+
+own-requires : tie.Need-own-requires
+own-requires c κs = search needs
+
+over-requires-2 : tie.Need-over-requires-2
+over-requires-2 c κs =
+    let A = c .before .before .before .before .before .before .before .before .before .args in
+    let P = c .before .before .before .before .before .before .before .before .before .pre in
+    let E = c .before .before .own .ensures in (
+      P .0,
+      (
+        P .1 .0,
+        (
+          (P .1 .1 .0, E .0, omega (arith, E .1)),
+          (
+            P .1 .1 .1 .0,
+            λ k p lp lk j. near-itself (A .w) (A .h) (seen (A .w) (A .st) (A .shadow .now)) (seen (A .w) (A .st) (A .seed .now)) (A .q) (c .before .before .own .result) (seen (A .w) (A .st) (A .lower .now)) (E .2) (P .1 .1 .1 .1) lk j,
+          ),
+        ),
+      ),
+    )
+
+same-length-3 : tie.Need-same-length-3
+same-length-3 c = search needs
+
+same-length-4 : tie.Need-same-length-4
+same-length-4 c = search needs
+
+returns-2 : tie.Need-returns-2
+returns-2 c = c .before .before .before .before .over2 .ensures
 
 pub rings-spec : {M : Type 1} → statement M
 rings-spec =
     tie.close
     (tie.spec
-    slice-aggregate-near-plane
-    near-plane-requires
-    slice-aggregate-both
-    slice-aggregate-both-2
-    add-both
-    mul-both
-    both-requires
+    slice-aggregate-near-in
+    near-in-requires
     slice-aggregate-over
     over-requires
     same-length
     same-length-2
-    returns)
+    returns
+    own-requires
+    over-requires-2
+    same-length-3
+    same-length-4
+    returns-2)

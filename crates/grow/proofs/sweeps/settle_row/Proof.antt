@@ -27,7 +27,7 @@ mul-i0 : tie.Need-mul-i0 Inv-loop μ-loop
 mul-i0 c = let A = c .before .before .before .before .args in let P = c .before .before .before .before .pre in let RM = kit-room (A .w) (A .h) (A .st) (A .ring .now) (A .marks .now) (A .got .now) (A .cand .now) (P .0) (A .r) 0 (P .1) (omega (arith, P .0 .sizes .st-is)) in omega (arith, RM)
 
 loop-holds : tie.Need-loop-holds Inv-loop μ-loop
-loop-holds c = let A = c .before .before .before .before .args in (omega arith, refl, refl, c .before .before .before .before .pre .0, moved-none (A .ring .now) (A .marks .now), (λ e j x y. absurd (omega arith)), λ f s G. G)
+loop-holds c = let A = c .before .before .before .before .args in (omega arith, refl, refl, c .before .before .before .before .pre .0, moved-none (A .ring .now) (A .marks .now), (λ e j x y. absurd (omega arith)), λ f s n G. G)
 
 add-m : tie.Need-add-m Inv-loop μ-loop
 add-m c = let A = c .before .before .before .before .before .before .args in let P = c .before .before .before .before .before .before .pre in let L = c .before .loop in let K = L .inv .3 in
@@ -85,7 +85,7 @@ loop-again-2 c = let A = c .before .before .before .before .before .before .befo
       VV .ensures .0,
       moved-yes (L .changed) (VV .result) (c .if2 .taken) (L .inv .4) (VV .ensures .1 .0),
       (λ e. absurd (true≢false e)),
-      λ f s G. VV .ensures .1 .1 .1 f s (L .inv .6 f s G),
+      λ f s n G. VV .ensures .1 .1 .1 f s n (L .inv .6 f s n G),
     )
 
 loop-less-3 : tie.Need-loop-less-3 Inv-loop μ-loop
@@ -103,7 +103,7 @@ loop-again-3 c = let A = c .before .before .before .before .before .before .befo
       VV .ensures .0,
       moved-no (L .changed) (VV .result) (c .if2 .left) (L .inv .4) (VV .ensures .1 .0),
       (λ e. clean-sub ((A .r + 1) * A .st * 8) (((A .r + 1) * A .st + L .b) * 8) (VV .last .1 .0) (L .marks) (VV .ensures .1 .0 .fewer (c .if2 .left)) (L .inv .5 e)),
-      λ f s G. VV .ensures .1 .1 .1 f s (L .inv .6 f s G),
+      λ f s n G. VV .ensures .1 .1 .1 f s n (L .inv .6 f s n G),
     )
 
 same-length : tie.Need-same-length Inv-loop μ-loop

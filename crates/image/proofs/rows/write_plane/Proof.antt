@@ -3,7 +3,6 @@ use Prim.Native.Nat.{ℕ, _-_, _*_}
 use native.Mathlib.Omega.{arith}
 use borrow.Author.Needs.{needs}
 use Rattle.rules.specs.Images.{rowBytes}
-use Rattle.image.specs.Packed.{plane-bytes}
 use Rattle.image.specs.Planes.{size-max, framed-scratch}
 use Rattle.image.specs.RowLaws.{write-packed}
 use Rattle.image.specs.Rows.{Runs}
@@ -36,7 +35,7 @@ returns c =
     let rb : A .st - 1 ≡ rowBytes (A .w) = omega (arith, P .0 .st-is) in
     let W = write-packed (A .w) (A .h) (A .st) (P .0) f (A .p .now) (R .last .1 .0) (A .s .now) (R .kept .1 .0 ∙ P .1 .1) (framed-scratch (A .w) (A .h) (A .st) (P .0) (A .p .now) (P .1 .0 .framed))
     (subst (λ (x : ℕ). Runs (A .h) x (A .st) (A .st) 0 x (A .p .now) (R .last .1 .0) (A .s .now)) rb (R .ensures)) in
-    plane-bytes (A .w) (A .h) f (R .last .1 .0) (W .1) (λ b. c .slice-known2 .given b .fits) (W .0)
+    record { clean = W .1; pixels = W .0 }
 
 pub write-plane-spec : {M : Type 1} → statement M
 write-plane-spec = tie.close (tie.spec sub-runs sub-runs-2 runs-requires same-length returns)

@@ -1,122 +1,78 @@
 use mathlib.Core.Path.{_≡_, refl, subst, _∙_}
-use Prim.Native.Nat.{ℕ, _+_, _-_, _<_}
-use native.Mathlib.Omega.{arith}
+use Prim.Native.Nat.{ℕ, _≤_, _-_, _+_}
 use lib.ListN.{length}
-use Rattle.image.specs.Scratch.{Ready}
 use Rattle.plan.specs.StackLaws.{down-end}
 use Rattle.plan.specs.Stacks.{Down}
+use native.Mathlib.Omega.{arith}
+use borrow.Author.Needs.{needs}
 use Rattle.plan.proofs.stack.layers.Statement.{statement}
 use Rattle.plan.proofs.stack.layers.Tie as tie
+use Rattle.plan.proofs.stack.layers.Reads as reads
+use Rattle.plan.proofs.stack.layers.Lts as lts
+use Rattle.plan.proofs.stack.layer_at.Reads as layer-at-reads
 
 abbrev Inv-loop : tie.InvT-loop
-Inv-loop part support₀ rings₀ upper₀ above₀ lower₀ shadow₀ seed₀ excused₀ free₀ later₀ marks₀ temp₀ mask half w h n st q size area i₀ support rings upper above lower shadow seed excused free later marks temp i =
-    (i < n) × (length support ≡ length support₀) × (length rings ≡ length rings₀)
-    × ((length upper ≡ length upper₀) × (length above ≡ length above₀) × (length lower ≡ length lower₀) × (length shadow ≡ length shadow₀) × (length seed ≡ length seed₀)
-    × (length excused ≡ length excused₀) × (length free ≡ length free₀) × (length later ≡ length later₀) × (length marks ≡ length marks₀) × (length temp ≡ length temp₀))
-    × Down w h st n q i part support rings upper above
-    × (Ready w h st lower × Ready w h st shadow × Ready w h st seed × Ready w h st excused × Ready w h st free × Ready w h st later × Ready w h st marks × Ready w h st temp)
+Inv-loop part support₀ rings₀ above₀ w h n st q i₀ support rings above i =
+    (length support ≡ length support₀) × (length rings ≡ length rings₀) × (length above ≡ length above₀) × (i ≤ n - 1) × Down w h n q i part support rings above
 
 abbrev μ-loop : tie.MeasureT-loop
-μ-loop part support₀ rings₀ upper₀ above₀ lower₀ shadow₀ seed₀ excused₀ free₀ later₀ marks₀ temp₀ mask half w h n st q size area i₀ support rings upper above lower shadow seed excused free later marks temp i = i
+μ-loop part support₀ rings₀ above₀ w h n st q i₀ support rings above i = i
 
+-- src/stack.rt:78:17
 sub-i : tie.Need-sub-i Inv-loop μ-loop
-sub-i c = omega (arith, c .before .before .before .before .before .before .before .before .before .before .before .before .before .before .before .pre .1 .0 .2)
+sub-i c = omega (arith, c .before .before .before .before .pre .0 .2)
 
+-- src/stack.rt:79:5
 loop-holds : tie.Need-loop-holds Inv-loop μ-loop
-loop-holds c = let P = c .before .before .before .before .before .before .before .before .before .before .before .before .before .before .before .pre in (omega (arith, P .1 .0 .2), refl, refl, (refl, refl, refl, refl, refl, refl, refl, refl, refl, refl), P .1 .1 .1 .0, P .1 .1 .1 .1 .0)
+loop-holds c = (refl, refl, refl, omega arith, c .before .before .before .before .pre .1 .1)
 
+-- src/stack.rt:80:9
 sub-i-2 : tie.Need-sub-i-2 Inv-loop μ-loop
 sub-i-2 c = omega (arith, c .loop-test .taken)
 
+-- src/stack.rt:81:9
 layer-at-requires : tie.Need-layer-at-requires Inv-loop μ-loop
 layer-at-requires c κs =
-    let A = c .before .before .before .before .before .before .before .before .before .before .before .before .before .before .before .before .before .before .before .before .before .before .before .before .before .before .before .before .before .args in
-    let P = c .before .before .before .before .before .before .before .before .before .before .before .before .before .before .before .before .before .before .before .before .before .before .before .before .before .before .before .before .before .pre in
-    let L = c .before .before .before .before .before .before .before .before .before .before .before .before .before .loop in
-    let I = L .inv in
-    let e : L .i ≡ L .i - 1 + 1 = omega (arith, c .before .before .before .before .before .before .before .before .before .before .before .before .loop-test .taken) in (
-      P .0,
+    let A = c .before .before .before .before .before .before .before .before .before .args in
+    let P = c .before .before .before .before .before .before .before .before .before .pre in
+    let L = c .before .before .before .before .loop in
+    let e : L .i ≡ L .i - 1 + 1 = omega (arith, c .before .before .before .loop-test .taken) in (
+      (P .0 .0, P .0 .1, omega (arith, L .inv .3, c .before .before .before .loop-test .taken)),
       (
-        (P .1 .0 .0, P .1 .0 .1, omega (arith, I .0, c .before .before .before .before .before .before .before .before .before .before .before .before .loop-test .taken)),
-        (
-          (P .1 .1 .0 .0, P .1 .1 .0 .1, I .1 ∙ P .1 .1 .0 .2, I .2 ∙ P .1 .1 .0 .3),
-          (subst (λ (x : ℕ). Down (A .w) (A .h) (A .st) (A .n) (A .q) x (A .part .now) (L .support) (L .rings) (L .upper) (L .above)) e (I .4), (I .5, (P .1 .1 .1 .1 .1 .0, P .1 .1 .1 .1 .1 .1))),
-        ),
+        record { part-long = P .1 .0 .part-long; clean = P .1 .0 .clean; support-long = L .inv .0 ∙ P .1 .0 .support-long; rings-long = L .inv .1 ∙ P .1 .0 .rings-long },
+        subst (λ (k : ℕ). Down (A .w) (A .h) (A .n) (A .q) k (A .part .now) (L .support) (L .rings) (L .above)) e (L .inv .4),
       ),
     )
 
+-- src/stack.rt:79:5
 loop-less : tie.Need-loop-less Inv-loop μ-loop
-loop-less c = omega (arith, c .before .before .before .before .before .before .before .before .before .before .before .before .before .before .before .before .before .before .before .before .before .before .before .before .before .before .before .before .before .before .before .before .before .before .before .before .before .loop-test .taken)
+loop-less c = omega (arith, c .before .before .before .before .before .before .before .before .before .before .loop-test .taken)
 
+-- src/stack.rt:79:5
 loop-again : tie.Need-loop-again Inv-loop μ-loop
-loop-again c =
-    let I = c .before .before .before .before .before .before .before .before .before .before .before .before .before .before .before .before .before .before .before .before .before .before .before .before .before .before .before .before .before .before .before .before .before .before .before .before .before .before .loop .inv in
-    let K = c .before .before .before .before .before .before .before .before .before .before .before .before .before .before .before .before .before .before .before .before .before .before .before .before .layer-at .kept in
-    let E = c .before .before .before .before .before .before .before .before .before .before .before .before .before .before .before .before .before .before .before .before .before .before .before .before .layer-at .ensures in (
-      omega (arith, I .0, c .before .before .before .before .before .before .before .before .before .before .before .before .before .before .before .before .before .before .before .before .before .before .before .before .before .before .before .before .before .before .before .before .before .before .before .before .before .loop-test .taken),
-      K .1 .0 ∙ I .1,
-      K .1 .1 .0 ∙ I .2,
-      (
-        K .1 .1 .1 .0 ∙ I .3 .0,
-        K .1 .1 .1 .1 .0 ∙ I .3 .1,
-        K .1 .1 .1 .1 .1 .0 ∙ I .3 .2,
-        K .1 .1 .1 .1 .1 .1 .0 ∙ I .3 .3,
-        K .1 .1 .1 .1 .1 .1 .1 .0 ∙ I .3 .4,
-        K .1 .1 .1 .1 .1 .1 .1 .1 .0 ∙ I .3 .5,
-        K .1 .1 .1 .1 .1 .1 .1 .1 .1 .0 ∙ I .3 .6,
-        K .1 .1 .1 .1 .1 .1 .1 .1 .1 .1 .0 ∙ I .3 .7,
-        K .1 .1 .1 .1 .1 .1 .1 .1 .1 .1 .1 .0 ∙ I .3 .8,
-        K .1 .1 .1 .1 .1 .1 .1 .1 .1 .1 .1 .1 .0 ∙ I .3 .9,
-      ),
-      E .0,
-      E .1,
-    )
+loop-again c = (c .before .before .before .before .before .before .layer-at .kept .1 .0 ∙ c .before .before .before .before .before .before .before .before .before .before .before .loop .inv .0, c .before .before .before .before .before .before .layer-at .kept .1 .1 .0 ∙ c .before .before .before .before .before .before .before .before .before .before .before .loop .inv .1, c .before .before .before .before .before .before .layer-at .kept .1 .1 .1 .0 ∙ c .before .before .before .before .before .before .before .before .before .before .before .loop .inv .2, omega (arith, c .before .before .before .before .before .before .before .before .before .before .before .loop .inv .3), c .before .before .before .before .before .before .layer-at .ensures)
 
+-- src/stack.rt:61:1
 same-length : tie.Need-same-length Inv-loop μ-loop
-same-length c = c .before .loop .inv .1
+same-length c = c .before .loop .inv .0
 
+-- src/stack.rt:61:1
 same-length-2 : tie.Need-same-length-2 Inv-loop μ-loop
-same-length-2 c = c .before .loop .inv .2
+same-length-2 c = c .before .loop .inv .1
 
+-- src/stack.rt:61:1
 same-length-3 : tie.Need-same-length-3 Inv-loop μ-loop
-same-length-3 c = c .before .loop .inv .3 .0
+same-length-3 c = c .before .loop .inv .2
 
-same-length-4 : tie.Need-same-length-4 Inv-loop μ-loop
-same-length-4 c = c .before .loop .inv .3 .1
-
-same-length-5 : tie.Need-same-length-5 Inv-loop μ-loop
-same-length-5 c = c .before .loop .inv .3 .2
-
-same-length-6 : tie.Need-same-length-6 Inv-loop μ-loop
-same-length-6 c = c .before .loop .inv .3 .3
-
-same-length-7 : tie.Need-same-length-7 Inv-loop μ-loop
-same-length-7 c = c .before .loop .inv .3 .4
-
-same-length-8 : tie.Need-same-length-8 Inv-loop μ-loop
-same-length-8 c = c .before .loop .inv .3 .5
-
-same-length-9 : tie.Need-same-length-9 Inv-loop μ-loop
-same-length-9 c = c .before .loop .inv .3 .6
-
-same-length-10 : tie.Need-same-length-10 Inv-loop μ-loop
-same-length-10 c = c .before .loop .inv .3 .7
-
-same-length-11 : tie.Need-same-length-11 Inv-loop μ-loop
-same-length-11 c = c .before .loop .inv .3 .8
-
-same-length-12 : tie.Need-same-length-12 Inv-loop μ-loop
-same-length-12 c = c .before .loop .inv .3 .9
-
+-- src/stack.rt:61:1
 returns : tie.Need-returns Inv-loop μ-loop
 returns c =
-    let A = c .before .before .before .before .before .before .before .before .before .before .before .before .before .before .before .before .before .args in
-    let P = c .before .before .before .before .before .before .before .before .before .before .before .before .before .before .before .before .before .pre in
+    let A = c .before .before .before .before .before .before .args in
+    let P = c .before .before .before .before .before .before .pre in
     let L = c .before .loop in
-    let I = L .inv in
-    let e : L .i ≡ 0 = omega (arith, c .loop-test .left) in
-    down-end (A .w) (A .h) (A .st) (A .n) (A .q) (P .0) (A .part .now) (P .1 .1 .0 .0) (L .support) (L .rings) (L .upper) (L .above) (I .1 ∙ P .1 .1 .0 .2) (I .2 ∙ P .1 .1 .0 .3)
-    (subst (λ (x : ℕ). Down (A .w) (A .h) (A .st) (A .n) (A .q) x (A .part .now) (L .support) (L .rings) (L .upper) (L .above)) e (I .4))
+    let z : L .i ≡ 0 = omega (arith, c .loop-test .left) in
+    down-end (A .w) (A .h) (A .n) (A .q) (P .0 .0 .w-min) (A .part .now) (P .1 .0 .part-long) (L .support) (L .rings) (L .above) (L .inv .0 ∙ P .1 .0 .support-long) (L .inv .1 ∙ P .1 .0 .rings-long)
+    (subst (λ (k : ℕ). Down (A .w) (A .h) (A .n) (A .q) k (A .part .now) (L .support) (L .rings) (L .above)) z (L .inv .4))
 
 pub layers-spec : {M : Type 1} → statement M
 layers-spec =
@@ -133,13 +89,4 @@ layers-spec =
     same-length
     same-length-2
     same-length-3
-    same-length-4
-    same-length-5
-    same-length-6
-    same-length-7
-    same-length-8
-    same-length-9
-    same-length-10
-    same-length-11
-    same-length-12
     returns)

@@ -1,69 +1,77 @@
-use mathlib.Core.Path.{_∙_}
-use borrow.Author.Needs.{needs}
+use mathlib.Core.Path.{sym, _∙_}
+use Prim.Native.Nat.{_-_, _*_}
+use lib.ListN.{take, replicate}
+use Rattle.plan.specs.PairLaws.{plane-size, fresh-pack, zeros-small}
 use Rattle.plan.specs.StackLaws.{down-start}
+use native.Mathlib.Omega.{arith}
+use borrow.Author.Needs.{needs}
 use Rattle.plan.proofs.stack.stack.Statement.{statement}
 use Rattle.plan.proofs.stack.stack.Tie as tie
+use Rattle.plan.proofs.stack.stack.Reads as reads
+use Rattle.plan.proofs.stack.stack.Lts as lts
+use Rattle.plan.proofs.stack.layers.Reads as layers-reads
+use Rattle.plan.proofs.stack.top.Reads as top-reads
 
-top-at-requires : tie.Need-top-at-requires
-top-at-requires c κs =
-    let P = c .before .before .before .before .before .before .before .before .before .before .before .before .before .before .before .before .before .before .pre in
-    (P .0, ((P .1 .0 .0, P .1 .0 .2), ((P .1 .1 .0 .0, P .1 .1 .0 .1, P .1 .1 .0 .2), P .1 .1 .1 .0)))
+-- src/stack.rt:112:21
+sub-size : tie.Need-sub-size
+sub-size c = search needs
 
+-- src/stack.rt:112:16
+mul-size : tie.Need-mul-size
+mul-size c = omega (arith, plane-size (c .before .before .before .args .w) (c .before .before .before .args .h) (c .before .before .before .args .st) (c .before .before .before .pre .0 .0))
+
+-- src/stack.rt:114:18
+array-share-prefix-above : tie.Need-array-share-prefix-above
+array-share-prefix-above c = plane-size (c .before .before .before .before .args .w) (c .before .before .before .before .args .h) (c .before .before .before .before .args .st) (c .before .before .before .before .pre .0 .0) .1
+
+-- src/stack.rt:114:18
+slice-aggregate-top : tie.Need-slice-aggregate-top
+slice-aggregate-top c =
+    let Z = plane-size (c .before .before .before .before .before .args .w) (c .before .before .before .before .before .args .h) (c .before .before .before .before .before .args .st) (c .before .before .before .before .before .pre .0 .0) in
+    Z .0 ∙ sym (fresh-pack (c .before .before .before .before .before .args .w) (c .before .before .before .before .before .args .h) (c .before .before .before .before .before .pre .0 .0 .w-min) (c .before .before .before .before .before .args .h * (c .before .before .before .before .before .args .st - 1)) (Z .0) (Z .1) .clean .long)
+
+-- src/stack.rt:114:5
+top-requires : tie.Need-top-requires
+top-requires c κs =
+    let P = c .before .before .before .before .before .pre in
+    let Z = plane-size (c .before .before .before .before .before .args .w) (c .before .before .before .before .before .args .h) (c .before .before .before .before .before .args .st) (P .0 .0) in
+    ((P .0 .0, P .0 .2), (P .1 .support-long, fresh-pack (c .before .before .before .before .before .args .w) (c .before .before .before .before .before .args .h) (P .0 .0 .w-min) (c .before .before .before .before .before .args .h * (c .before .before .before .before .before .args .st - 1)) (Z .0) (Z .1)))
+
+-- src/stack.rt:115:34
+array-borrow-prefix-above : tie.Need-array-borrow-prefix-above
+array-borrow-prefix-above c = plane-size (c .before .before .before .before .before .before .before .before .before .before .args .w) (c .before .before .before .before .before .before .before .before .before .before .args .h) (c .before .before .before .before .before .before .before .before .before .before .args .st) (c .before .before .before .before .before .before .before .before .before .before .pre .0 .0) .1
+
+-- src/stack.rt:115:34
+slice-aggregate-layers : tie.Need-slice-aggregate-layers
+slice-aggregate-layers c =
+    let Z = plane-size (c .before .before .before .before .before .before .before .before .before .before .before .args .w) (c .before .before .before .before .before .before .before .before .before .before .before .args .h) (c .before .before .before .before .before .before .before .before .before .before .before .args .st) (c .before .before .before .before .before .before .before .before .before .before .before .pre .0 .0) in
+    Z .0 ∙ sym (fresh-pack (c .before .before .before .before .before .before .before .before .before .before .before .args .w) (c .before .before .before .before .before .before .before .before .before .before .before .args .h) (c .before .before .before .before .before .before .before .before .before .before .before .pre .0 .0 .w-min) (c .before .before .before .before .before .before .before .before .before .before .before .args .h * (c .before .before .before .before .before .before .before .before .before .before .before .args .st - 1)) (Z .0) (Z .1) .clean .long)
+
+-- src/stack.rt:115:5
 layers-requires : tie.Need-layers-requires
 layers-requires c κs =
-    let A = c .before .before .before .before .before .before .before .before .before .before .before .before .before .before .before .before .before .before .before .before .before .before .before .before .before .before .before .before .before .before .before .before .before .before .before .before .before .args in
-    let P = c .before .before .before .before .before .before .before .before .before .before .before .before .before .before .before .before .before .before .before .before .before .before .before .before .before .before .before .before .before .before .before .before .before .before .before .before .before .pre in
-    let T = c .before .before .before .before .before .before .before .before .before .before .before .before .before .before .before .before .before .before .top-at in
-    let E = T .ensures in (
+    let A = c .before .before .before .before .before .before .before .before .before .before .before .args in
+    let P = c .before .before .before .before .before .before .before .before .before .before .before .pre in
+    let Z = plane-size (A .w) (A .h) (A .st) (P .0 .0) in
+    let size = A .h * (A .st - 1) in
+    let T = c .before .before .before .before .before .top in (
       P .0,
       (
-        P .1 .0,
-        (
-          (P .1 .1 .0 .0, P .1 .1 .0 .1, T .kept .1 .0 ∙ P .1 .1 .0 .2, P .1 .1 .0 .3),
-          (
-            down-start (A .w) (A .h) (A .st) (A .n) (A .q) (P .0) (A .part .now) (P .1 .1 .0 .0) (A .support .now) (T .last .1 .0) (A .rings .now) (T .last .1 .1 .0) (T .last .1 .1 .1 .0) (P .1 .0 .2) (P .1 .1 .0 .2) (P .1 .1 .0 .3) (E .0 .1) (E .0 .0) (E .1 .0) (E .1 .1),
-            (P .1 .1 .1 .1 .0, (P .1 .1 .1 .1 .1 .0, P .1 .1 .1 .1 .1 .1)),
-          ),
-        ),
+        record { part-long = P .1 .part-long; clean = P .1 .clean; support-long = T .kept .0 ∙ P .1 .support-long; rings-long = P .1 .rings-long },
+        down-start (A .w) (A .h) (A .n) (A .q) (P .0 .0 .w-min) (A .part .now) (P .1 .part-long) (A .support .now) (T .last .0) (A .rings .now) (take size (replicate 8192 0)) (P .0 .2) (P .1 .support-long) (P .1 .rings-long) (T .ensures .1) (T .ensures .0)
+            (zeros-small size) (fresh-pack (A .w) (A .h) (P .0 .0 .w-min) size (Z .0) (Z .1)),
       ),
     )
 
+-- src/stack.rt:97:1
 same-length : tie.Need-same-length
-same-length c = c .before .before .before .before .before .before .before .before .before .before .before .before .before .before .before .before .before .before .before .before .before .before .before .before .layers .kept .1 .0 ∙ c .before .before .before .before .before .before .before .before .before .before .before .before .before .before .before .before .before .before .before .before .before .before .before .before .before .before .before .before .before .before .before .before .before .before .before .before .before .before .before .before .before .before .before .top-at .kept .1 .0
+same-length c = search needs
 
+-- src/stack.rt:97:1
 same-length-2 : tie.Need-same-length-2
-same-length-2 c = c .before .before .before .before .before .before .before .before .before .before .before .before .before .before .before .before .before .before .before .before .before .before .before .before .layers .kept .1 .1 .0
+same-length-2 c = search needs
 
-same-length-3 : tie.Need-same-length-3
-same-length-3 c = c .before .before .before .before .before .before .before .before .before .before .before .before .before .before .before .before .before .before .before .before .before .before .before .before .layers .kept .1 .1 .1 .0 ∙ c .before .before .before .before .before .before .before .before .before .before .before .before .before .before .before .before .before .before .before .before .before .before .before .before .before .before .before .before .before .before .before .before .before .before .before .before .before .before .before .before .before .before .before .top-at .kept .1 .1 .0
-
-same-length-4 : tie.Need-same-length-4
-same-length-4 c = c .before .before .before .before .before .before .before .before .before .before .before .before .before .before .before .before .before .before .before .before .before .before .before .before .layers .kept .1 .1 .1 .1 .0 ∙ c .before .before .before .before .before .before .before .before .before .before .before .before .before .before .before .before .before .before .before .before .before .before .before .before .before .before .before .before .before .before .before .before .before .before .before .before .before .before .before .before .before .before .before .top-at .kept .1 .1 .1 .0
-
-same-length-5 : tie.Need-same-length-5
-same-length-5 c = c .before .before .before .before .before .before .before .before .before .before .before .before .before .before .before .before .before .before .before .before .before .before .before .before .layers .kept .1 .1 .1 .1 .1 .0
-
-same-length-6 : tie.Need-same-length-6
-same-length-6 c = c .before .before .before .before .before .before .before .before .before .before .before .before .before .before .before .before .before .before .before .before .before .before .before .before .layers .kept .1 .1 .1 .1 .1 .1 .0
-
-same-length-7 : tie.Need-same-length-7
-same-length-7 c = search needs
-
-same-length-8 : tie.Need-same-length-8
-same-length-8 c = search needs
-
-same-length-9 : tie.Need-same-length-9
-same-length-9 c = search needs
-
-same-length-10 : tie.Need-same-length-10
-same-length-10 c = search needs
-
-same-length-11 : tie.Need-same-length-11
-same-length-11 c = search needs
-
-same-length-12 : tie.Need-same-length-12
-same-length-12 c = search needs
-
+-- src/stack.rt:97:1
 returns : tie.Need-returns
 returns c = search needs
 
@@ -71,18 +79,14 @@ pub stack-spec : {M : Type 1} → statement M
 stack-spec =
     tie.close
     (tie.spec
-    top-at-requires
+    sub-size
+    mul-size
+    array-share-prefix-above
+    slice-aggregate-top
+    top-requires
+    array-borrow-prefix-above
+    slice-aggregate-layers
     layers-requires
     same-length
     same-length-2
-    same-length-3
-    same-length-4
-    same-length-5
-    same-length-6
-    same-length-7
-    same-length-8
-    same-length-9
-    same-length-10
-    same-length-11
-    same-length-12
     returns)

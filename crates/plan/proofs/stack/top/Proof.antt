@@ -1,62 +1,93 @@
-use mathlib.Core.Path.{_∙_}
-use mathlib.Core.Bool.{false}
+use mathlib.Core.Path.{_≡_, sym, subst, _∙_}
+use mathlib.Core.List.{List}
+use Prim.Native.Nat.{ℕ, _-_, _+_, _*_}
+use borrow.Rule.Slice.PartMut.{same-len-mid, putMid}
+use lib.ListN.{length}
+use Rattle.rules.specs.Images.{rowBytes}
+use Rattle.image.specs.Rows.{plane, OnlyPlane}
+use Rattle.plan.specs.PairLaws.{plane-size}
+use Rattle.plan.specs.StackLaws.{layer-room, lent-support, top-done}
 use native.Mathlib.Omega.{arith}
 use borrow.Author.Needs.{needs}
-use Rattle.image.specs.Packed.{bytes-same}
-use Rattle.image.specs.Planes.{scratch-seen, cleared-plane, size-max}
-use Rattle.image.specs.Scratch.{seen}
 use Rattle.plan.proofs.stack.top.Statement.{statement}
 use Rattle.plan.proofs.stack.top.Tie as tie
+use Rattle.plan.proofs.stack.top.Reads as reads
+use Rattle.plan.proofs.stack.top.Lts as lts
+use Rattle.plan.proofs.stack.put.Reads as put-reads
 
-read-plane-requires : tie.Need-read-plane-requires
-read-plane-requires c κs = search needs
+-- src/stack.rt:91:21
+sub-size : tie.Need-sub-size
+sub-size c = search needs
 
-add-clear : tie.Need-add-clear
-add-clear c = search needs
+-- src/stack.rt:91:16
+mul-size : tie.Need-mul-size
+mul-size c = omega (arith, plane-size (c .before .before .args .w) (c .before .before .args .h) (c .before .before .args .st) (c .before .before .pre .0 .0))
 
-mul-clear : tie.Need-mul-clear
-mul-clear c = let A = c .before .before .before .before .before .before .before .before .before .args in omega (arith, size-max (A .w) (A .h) (A .st) (c .before .before .before .before .before .before .before .before .before .pre .0))
+-- src/stack.rt:92:14
+sub-a : tie.Need-sub-a
+sub-a c = search needs
 
-clear-requires : tie.Need-clear-requires
-clear-requires c κs = let A = c .before .before .before .before .before .before .before .before .before .args in omega (arith, size-max (A .w) (A .h) (A .st) (c .before .before .before .before .before .before .before .before .before .pre .0), c .before .before .before .before .before .before .before .before .before .pre .1 .1 .2 .long)
+-- src/stack.rt:92:13
+mul-a : tie.Need-mul-a
+mul-a c =
+    let A = c .before .before .args in
+    let P = c .before .before .pre in
+    omega (arith, layer-room (A .w) (A .h) (A .n) (A .h * (A .st - 1)) (A .n - 1) (length (A .support .now)) (plane-size (A .w) (A .h) (A .st) (P .0 .0) .0) (P .1 .0) (omega (arith, P .0 .1)), c .before .before .good .0)
 
-write-plane-requires : tie.Need-write-plane-requires
-write-plane-requires c κs =
-    let A = c .before .before .before .before .before .before .before .before .before .before .before .before .before .before .args in
-    let P = c .before .before .before .before .before .before .before .before .before .before .before .before .before .before .pre in
-    let C = c .before .before .before .before .clear in
-    let blank = cleared-plane (A .w) (A .h) (A .st) (P .0) (C .last .0) (A .above .now) (C .ensures) in
-    (P .0, (record { long = omega (arith, P .1 .1 .2 .long, C .kept .0); framed = blank .rest }, P .1 .1 .0))
+-- src/stack.rt:93:32
+add-put : tie.Need-add-put
+add-put c =
+    let A = c .before .before .args in
+    let P = c .before .before .pre in
+    omega (arith, layer-room (A .w) (A .h) (A .n) (A .h * (A .st - 1)) (A .n - 1) (length (A .support .now)) (plane-size (A .w) (A .h) (A .st) (P .0 .0) .0) (P .1 .0) (omega (arith, P .0 .1)), c .before .before .good .0)
 
+-- src/stack.rt:93:16
+sub-put : tie.Need-sub-put
+sub-put c = search needs
+
+-- src/stack.rt:93:16
+part-put-start : tie.Need-part-put-start
+part-put-start c = search needs
+
+-- src/stack.rt:93:16
+part-put-end : tie.Need-part-put-end
+part-put-end c =
+    let A = c .before .before .args in
+    let P = c .before .before .pre in
+    layer-room (A .w) (A .h) (A .n) (A .h * (A .st - 1)) (A .n - 1) (length (A .support .now)) (plane-size (A .w) (A .h) (A .st) (P .0 .0) .0) (P .1 .0) (omega (arith, P .0 .1))
+
+-- src/stack.rt:93:5
+put-requires : tie.Need-put-requires
+put-requires c κs =
+    let A = c .before .before .before .args in
+    let P = c .before .before .before .pre in
+    lent-support (A .w) (A .h) (A .n) (A .h * (A .st - 1)) (A .n - 1) (A .support .now) (plane-size (A .w) (A .h) (A .st) (P .0 .0) .0) (P .1 .0) (omega (arith, P .0 .1)) ∙ sym (P .1 .1 .clean .long)
+
+-- src/stack.rt:86:1
 same-length : tie.Need-same-length
-same-length c = search needs
+same-length c = same-len-mid ((c .before .before .before .before .before .before .args .n - 1) * (c .before .before .before .before .before .before .args .h * (c .before .before .before .before .before .before .args .st - 1))) ((c .before .before .before .before .before .before .args .n - 1) * (c .before .before .before .before .before .before .args .h * (c .before .before .before .before .before .before .args .st - 1)) + c .before .before .before .before .before .before .args .h * (c .before .before .before .before .before .before .args .st - 1) - (c .before .before .before .before .before .before .args .n - 1) * (c .before .before .before .before .before .before .args .h * (c .before .before .before .before .before .before .args .st - 1))) (c .before .before .before .before .before .before .args .support .now) (c .before .before .put .last .1 .0) (c .before .before .put .kept .1 .0)
 
-same-length-2 : tie.Need-same-length-2
-same-length-2 c = search needs
-
-same-length-3 : tie.Need-same-length-3
-same-length-3 c = search needs
-
+-- src/stack.rt:86:1
 returns : tie.Need-returns
 returns c =
-    let A = c .before .before .before .before .before .before .before .before .before .before .before .before .before .before .before .before .before .args in
-    let P = c .before .before .before .before .before .before .before .before .before .before .before .before .before .before .before .before .before .pre in
-    let C = c .before .before .before .before .before .before .before .clear in
-    let blank = cleared-plane (A .w) (A .h) (A .st) (P .0) (C .last .0) (A .above .now) (C .ensures) in (
-      c .before .before .write-plane .ensures ∙ bytes-same (A .w) (A .h) (seen (A .w) (A .st) (C .last .0)) (λ p. false) (scratch-seen (A .w) (A .h) (A .st) (P .0) (λ p. false) (C .last .0) blank),
-      (c .before .before .before .before .before .before .before .before .before .before .before .read-plane .ensures, record { long = omega (arith, P .1 .1 .2 .long, C .kept .0); is = blank }),
-    )
+    let A = c .before .before .before .before .before .before .args in
+    let P = c .before .before .before .before .before .before .pre in
+    let T = c .before .before .put in
+    let D = top-done (A .w) (A .h) (A .n) (A .support .now) (T .last .1 .0) (P .0 .1) (P .1 .0) (A .h * (A .st - 1)) (plane-size (A .w) (A .h) (A .st) (P .0 .0) .0) (T .kept .1 .0) in
+    (D .0 ∙ T .ensures, D .1)
 
 pub top-spec : {M : Type 1} → statement M
 top-spec =
     tie.close
     (tie.spec
-    read-plane-requires
-    add-clear
-    mul-clear
-    clear-requires
-    write-plane-requires
+    sub-size
+    mul-size
+    sub-a
+    mul-a
+    add-put
+    sub-put
+    part-put-start
+    part-put-end
+    put-requires
     same-length
-    same-length-2
-    same-length-3
     returns)
