@@ -1,15 +1,15 @@
 -- Laws of the eight neighbours, and of what lends a ring.
 use mathlib.Core.Path.{_≡_, refl, sym, _∙_}
-use mathlib.Core.Bool.{Bool, true, false, not, _&&_, _||_}
+use mathlib.Core.Bool.{Bool, true, false, not, _&&_}
 use mathlib.Core.List.{List}
 use Prim.Native.Nat.{ℕ, _+_, _-_, _*_, _/_, _%_, _<_, _≤_, min}
 use native.Mathlib.Nat.{div-add-mod'}
 use native.Mathlib.Omega.{arith}
-use lib.Dec.{leb, ltb}
+use lib.Dec.{ltb}
 use lib.ListN.{getD}
-use borrow.Author.Tests.{ltb-true, ltb-false, eq-eqb, ne-eqb, lt-ltb, le-ltb, le-leb, lt-leb}
+use borrow.Author.Tests.{ltb-true, ltb-false, eq-eqb, ne-eqb, lt-ltb, le-ltb}
 use Rattle.rules.specs.Images.{Plane, rowBytes}
-use Rattle.rules.specs.Planning.{shadow, near, seeds, source, touch, touching}
+use Rattle.rules.specs.Planning.{shadow, seeds, source, touch, touching}
 use Rattle.laws.specs.Tests.{split, clash, and-in, some-in}
 use Rattle.laws.specs.Places.{digits-in}
 use Rattle.laws.specs.Neighbours.{Touching, touch-out, touch-in}

@@ -1,18 +1,17 @@
 -- From good rows to a plane without a bad ring.
 use mathlib.Core.Path.{_≡_, refl, sym, ap, subst, _∙_}
-use mathlib.Core.Logic.{_⊎_, inl, inr, ⊎-elim}
-use mathlib.Core.Bool.{Bool, true, false, not, _&&_, _||_}
+use mathlib.Core.Bool.{true, false, not, _&&_}
 use mathlib.Core.List.{List}
-use Prim.Native.Nat.{ℕ, zero, suc, _+_, _-_, _*_, _/_, _%_, _<_, _≤_, min}
+use Prim.Native.Nat.{ℕ, _+_, _-_, _*_, _/_, _%_, _<_, _≤_, min}
 use native.Mathlib.Nat.{div-add-mod'}
 use native.Mathlib.Omega.{arith}
 use native.Mathlib.Decide.{decLt}
-use borrow.Author.Tests.{ltb-true, ltb-false, eqb-true, eqb-false, lt-ltb}
+use borrow.Author.Tests.{ltb-true, ltb-false, eqb-true, eqb-false}
 use lib.Arith.{digits-div, digits-mod}
 use lib.Dec.{ltb, eqb}
-use lib.ListN.{length, getD, replicate, length-replicate, getD-replicate, List·getD-eq-default}
+use lib.ListN.{getD, replicate, length-replicate, getD-replicate, List·getD-eq-default}
 use Rattle.rules.specs.Images.{Plane, rowBytes, bitAt}
-use Rattle.rules.specs.Planning.{shadow, seeds, touch}
+use Rattle.rules.specs.Planning.{shadow, seeds}
 use Rattle.laws.specs.Tests.{split, clash, and-l, and-r, and-in, not-out, or-cases}
 use Rattle.laws.specs.Places.{digits-in}
 use Rattle.laws.specs.Neighbours.{touch-in}
@@ -22,7 +21,7 @@ use Rattle.image.specs.Packed.{row-bit}
 use Rattle.image.specs.Rows.{packed, Clean}
 use Rattle.image.specs.Scratch.{bitOf, seen}
 use Rattle.places.specs.Search.{bitIn}
-use Rattle.places.specs.Sound.{Step, Good, seedBit, seedBits, freeBit, Beside, Sound}
+use Rattle.places.specs.Sound.{Good, seedBit, seedBits, freeBit, Beside, Sound}
 use Rattle.places.specs.Planes.{in-plane}
 use Rattle.places.specs.Rows.{bytes-in}
 use lib.Bits.{bitOr}

@@ -55,12 +55,6 @@ module _ {w h rb : ℕ} (e : rb ≡ rowBytes w) where
   pub st-ready : {l : List ℕ} → Ready w h (rowBytes w + 1) l → Ready w h (rb + 1) l
   st-ready r = rw e r
 
-  pub st-drawn : {f : ℕ → Bool} {l : List ℕ} → Drawn w h (rowBytes w + 1) f l → Drawn w h (rb + 1) f l
-  st-drawn d = rw e d
-
-  pub ready-st : {l : List ℕ} → Ready w h (rb + 1) l → Ready w h (rowBytes w + 1) l
-  ready-st r = rw e at r
-
   pub drawn-st : {f : ℕ → Bool} {l : List ℕ} → Drawn w h (rb + 1) f l → Drawn w h (rowBytes w + 1) f l
   drawn-st d = rw e at d
 
@@ -76,6 +70,3 @@ zero-drawn w h st n z l = record {
   where
     none : (j : ℕ) → j < (h + 2) * st * 8 → bitOf (replicate {A = ℕ} n 0) j ≡ false
     none j lj = zero-bits (replicate {A = ℕ} n 0) n (λ i li. getD-replicate {A = ℕ} n i 0 0 li) j (omega (arith, size-max w h st z .0))
-
-pub empty-ready : (w h : ℕ) → Sized w h → Ready w h (rowBytes w + 1) (replicate {A = ℕ} 8704 0)
-empty-ready w h s = drawn-ready (zero-drawn w h (rowBytes w + 1) 8704 (sizes-of w h s) (omega arith))

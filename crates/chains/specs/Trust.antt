@@ -1,14 +1,13 @@
 -- Rings that are near by themselves: a pixel of ring k is within k rows and k columns of a seed, so while 2 k² is at most the
 -- bound nothing need be measured, where every ring has one to lean on.
 use mathlib.Core.Path.{_≡_, refl, sym, _∙_}
-use lib.ListN.{getD}
 use mathlib.Core.List.{List}
-use mathlib.Core.Bool.{Bool, true, false, not, _&&_, _||_}
-use Prim.Native.Nat.{ℕ, zero, suc, _-_, _*_, _/_, _%_, _<_, _≤_, _+_}
+use mathlib.Core.Bool.{true, false, not, _&&_}
+use Prim.Native.Nat.{ℕ, zero, suc, _-_, _*_, _/_, _%_, _<_, _≤_}
 use native.Mathlib.Nat.{mul-le-mul}
 use native.Mathlib.Omega.{arith}
 use lib.Dec.{leb, ltb, eqb}
-use borrow.Author.Tests.{lt-ltb, le-ltb, le-leb, lt-leb, leb-true, ltb-true, ltb-false, eq-eqb}
+use borrow.Author.Tests.{lt-ltb, le-ltb, le-leb, leb-true, ltb-true, ltb-false, eq-eqb}
 use Rattle.rules.specs.Images.{Plane}
 use Rattle.rules.specs.Reach.{square, apart, distance², root}
 use Rattle.rules.specs.Planning.{shadow, near, seeds, reached, source, touch, touching, fits}
@@ -19,7 +18,6 @@ use Rattle.image.specs.Scratch.{Sizes, seen, Drawn}
 use Rattle.image.specs.Planes.{scratch-seen}
 use Rattle.places.specs.Search.{Least, badHere, badBy}
 use Rattle.places.specs.Sound.{Beside, Sound}
-use Rattle.places.specs.Finding.{least-none}
 use Rattle.chains.specs.Eight.{leans}
 
 -- where the plane is the near plane, it is a bad ring

@@ -179,11 +179,10 @@ fn bad_at(
 {
     let bytes = h * limits::row_bytes(w);
     let area = h * w;
-    let pairs = n - 1;
     let mut at = 0;
     let mut x = 0;
     let mut i = 0;
-    while i < pairs {
+    while i + 1 < n {
         let mid = at + bytes;
         let end = mid + bytes;
         let next = x + area;

@@ -7,7 +7,7 @@ use native.Mathlib.Nat.{mul-le-mul, div-le-self}
 use native.Mathlib.Omega.{arith}
 use lib.Dec.{eqb}
 use lib.ListN.{length}
-use borrow.Author.Tests.{eq-eqb, ne-eqb, eqb-true, not-false}
+use borrow.Author.Tests.{eqb-true, not-false}
 use Rattle.rules.specs.Tools.{nothing, found, Case, refusal}
 use Rattle.rules.specs.Images.{Stack, rowBytes, pixel, rowsOf, stackBytes, ringsIn, ringAt, paddingSet}
 use Rattle.rules.specs.Reach.{square, boundOf, reachOf}

@@ -22,9 +22,6 @@ use Rattle.places.specs.Search.{flat, bitIn, overlapHere, badHere, unhel
 pub row-in : (row rows u : ℕ) → row < rows → row * u + u ≤ rows * u
 row-in row rows u l = omega (arith, mul-le-mul-right u l)
 
-pub next-row : (row u a : ℕ) → a ≡ row * u → a + u ≡ (row + 1) * u
-next-row row u a e = omega arith
-
 pub in-plane : (w h r c : ℕ) → r < h → c < w → r * w + c < h * w
 in-plane w h r c lr lc = digits-lt lr lc
 

@@ -1,6 +1,6 @@
 -- Laws of the quick test: rings joined, eight rings at once, the neighbours in a row.
 use mathlib.Core.Path.{_≡_, refl, sym, ap, ap₂, subst, _∙_}
-use mathlib.Core.Bool.{Bool, true, false, not, _&&_, _||_, cond}
+use mathlib.Core.Bool.{Bool, true, false, _&&_, _||_, cond}
 use mathlib.Core.List.{List}
 use Prim.Native.Nat.{ℕ, _+_, _-_, _*_, _/_, _%_, _<_, _≤_, min}
 use native.Mathlib.Omega.{arith}
@@ -15,7 +15,6 @@ use Rattle.rules.specs.Images.{bitAt}
 use Rattle.laws.specs.Tests.{split}
 use Rattle.image.specs.Bits.{bit-and, bit-or, byte-but-not}
 use Rattle.image.specs.Filling.{bit-here}
-use Rattle.image.specs.Scratch.{bitOf}
 use Rattle.places.specs.Search.{bitIn, Sized}
 use Rattle.places.specs.Sound.{Ones, Step, Among, Good, seedBit, seedBits, freeBit}
 use Rattle.places.specs.Planes.{in-plane}

@@ -1,23 +1,21 @@
 -- Laws of the searches in a row, row by row, and plane by plane.
 use mathlib.Core.Path.{_≡_, refl, sym, ap₂, _∙_}
-use mathlib.Core.Bool.{Bool, true, false, not, _&&_, _||_}
+use mathlib.Core.Bool.{Bool, false, _&&_}
 use mathlib.Core.List.{List}
-use Prim.Native.Nat.{ℕ, _+_, _-_, _*_, _/_, _%_, _<_, _≤_}
-use native.Mathlib.Nat.{mul-assoc, mul-le-mul, zero-add}
+use Prim.Native.Nat.{ℕ, zero, suc, _+_, _-_, _*_, _/_, _%_, _<_, _≤_}
+use native.Mathlib.Nat.{mul-assoc, mul-le-mul}
 use native.Mathlib.Omega.{arith}
 use lib.Arith.{digits-lt}
 use lib.Bits.{bitAnd, bitOr, or-add-and, and-le-l, and-le-r}
-use lib.Dec.{eqb, ltb}
+use lib.Dec.{eqb}
 use lib.ListN.{getD, length, set}
-use borrow.Author.Tests.{ltb-true, ltb-false}
 use borrow.Author.Count.{below-more}
 use Rattle.rules.specs.Images.{rowBytes, bitAt}
-use Rattle.laws.specs.Tests.{split}
 use Rattle.laws.specs.Places.{digits-in}
 use Rattle.places.specs.Search.{Least, bitIn, overlapHere, unheldHere, overlapIn, bareIn, bareHere, Hangs, Sized}
 use Rattle.places.specs.BitLaws.{byte-in, no-bit}
 use Rattle.places.specs.Finding.{least-none}
-use Rattle.image.specs.Bits.{bit-and, stored-more}
+use Rattle.image.specs.Bits.{bit-and, stored-more, or-none}
 use Rattle.image.specs.Scratch.{bitOf}
 use Rattle.image.specs.Rows.{packed}
 use Rattle.image.specs.Packed.{row-bit}
@@ -71,6 +69,43 @@ no-bare m rings at x w rb e all =
 
 pub no-bare-eight : (m x : ℕ) (rings : List ℕ) → m ≡ 0 → Least 0 8 (λ k. bitAt m k && eqb (getD rings (x + k) 0) 0) 8
 no-bare-eight m x rings e = least-none 0 8 _ (omega arith) (λ k a l. rw (no-bit m k e))
+
+-- the rest of a row from column c on, as a row of its own
+pub bare-shift : (m rings : List ℕ) (at x c b j : ℕ) → c % 8 ≡ 0 → b ≡ at + c / 8 → bareIn m rings at x (c + j) ≡ bareIn m rings b (x + c) j
+unfolding bareIn bitIn
+bare-shift m rings at x c b j z e =
+    let i : at + (c + j) / 8 ≡ b + j / 8 = omega arith in
+    let k : (c + j) % 8 ≡ j % 8 = omega arith in
+    let y : x + (c + j) ≡ x + c + j = omega arith in
+    rw (i, k, y)
+
+pub rest-room : (w c at b len : ℕ) → c % 8 ≡ 0 → c ≤ w → b ≡ at + c / 8 → at + rowBytes w ≤ len → b + rowBytes (w - c) ≤ len
+unfolding rowBytes
+rest-room w c at b len z l e h = omega arith
+
+-- the bytes of 32 columns from column c on
+pub four-room : (w c at b len : ℕ) → c % 8 ≡ 0 → c + 32 ≤ w → b ≡ at + c / 8 → at + rowBytes w ≤ len → b + 4 ≤ len
+unfolding rowBytes
+four-room w c at b len z l e h = omega arith
+
+pub four-bytes : (b len : ℕ) → b + 4 ≤ len → b + rowBytes 32 ≤ len
+unfolding rowBytes
+four-bytes b len l = omega arith
+
+four-zero : (f : ℕ → ℕ) (b : ℕ) → f b ≡ 0 → f (b + 1) ≡ 0 → f (b + 2) ≡ 0 → f (b + 3) ≡ 0 → (k : ℕ) → k < 4 → f (b + k) ≡ 0
+four-zero f b e₀ e₁ e₂ e₃ zero l = let z : b + 0 ≡ b = omega arith in rw z e₀
+four-zero f b e₀ e₁ e₂ e₃ (suc zero) l = e₁
+four-zero f b e₀ e₁ e₂ e₃ (suc (suc zero)) l = e₂
+four-zero f b e₀ e₁ e₂ e₃ (suc (suc (suc zero))) l = e₃
+four-zero f b e₀ e₁ e₂ e₃ (suc (suc (suc (suc k)))) l = absurd (omega arith)
+
+pub no-bare-four : (m rings : List ℕ) (b x : ℕ) → bitOr (bitOr (bitOr (getD m b 0) (getD m (b + 1) 0)) (getD m (b + 2) 0)) (getD m (b + 3) 0) ≡ 0 → Least 0 32 (bareIn m rings b x) 32
+unfolding bareIn bitIn
+no-bare-four m rings b x e =
+    let (e₃, z₃) = or-none (bitOr (bitOr (getD m b 0) (getD m (b + 1) 0)) (getD m (b + 2) 0)) (getD m (b + 3) 0) e in
+    let (e₂, z₂) = or-none (bitOr (getD m b 0) (getD m (b + 1) 0)) (getD m (b + 2) 0) e₃ in
+    let (z₀, z₁) = or-none (getD m b 0) (getD m (b + 1) 0) e₂ in
+    least-none 0 32 _ (omega arith) (λ y a l. rw (no-bit (getD m (b + y / 8) 0) (y % 8) (four-zero (λ i. getD m i 0) b z₀ z₁ z₂ z₃ (y / 8) (omega arith))))
 
 -- one more byte of what hangs is stored, and gathered
 pub gather-stored : (out : List ℕ) (j acc m : ℕ) → j < length out → (acc ≡ 0 → (k : ℕ) → k < j → getD out k 0 ≡ 0) → bitOr acc m ≡ 0 → (k : ℕ) → k < j + 1 → getD (set out j m) k 0 ≡ 0

@@ -1,14 +1,13 @@
 -- What the quick test of a pair says of its rings, when it says that none is bad.
 use mathlib.Core.Path.{_≡_}
-use mathlib.Core.Bool.{Bool, true, false, not, _&&_, _||_}
+use mathlib.Core.Bool.{Bool, true, not, _&&_, _||_}
 use mathlib.Core.List.{List}
 use Prim.Native.Nat.{ℕ, _+_, _-_, _*_, _/_, _%_, _≤_, _<_}
 use lib.ListN.{length, getD}
 use Rattle.rules.specs.Tools.{bit}
-use Rattle.rules.specs.Images.{Plane, rowBytes, bitAt}
+use Rattle.rules.specs.Images.{Plane, bitAt}
 use Rattle.rules.specs.Planning.{shadow, seeds, touch}
-use Rattle.image.specs.Scratch.{bitOf, seen}
-use Rattle.image.specs.Rows.{packed}
+use Rattle.image.specs.Scratch.{bitOf}
 use Rattle.places.specs.Search.{bitIn}
 
 -- the bits of every byte, each as a number: bit k of byte m stands at 8 * m + k

@@ -69,6 +69,35 @@ fn bare_bytes(hang: &[u8], rings: &[u16], ones: &[u16], at: usize, x: usize, w: 
     c + crate::bits::bare_bit(hang[b], rings, x + c, w - c)
 }
 
+// The same of 32 columns, from byte b and pixel x on. Where none of four bytes has a bit they are passed over.
+fn bare_four(hang: &[u8], rings: &[u16], ones: &[u16], b: usize, x: usize) -> usize
+    requires { ⌜ ((b + 4 ≤ length (now hang)) × (x + 32 ≤ length (now rings))) × Ones (now ones) ⌝ }
+    ensures { λ r. ⌜ Least 0 32 (bareIn (now (hang .entry)) (now (rings .entry)) b x) r ⌝ }
+{
+    if hang[b] | hang[b + 1] | hang[b + 2] | hang[b + 3] == 0 {
+        return 32;
+    }
+    bare_bytes(hang, rings, ones, b, x, 32)
+}
+
+// The same of a row, by 32 columns.
+fn bare_row(hang: &[u8], rings: &[u16], ones: &[u16], at: usize, x: usize, w: usize) -> usize
+    requires { ⌜ ((w ≤ 256) × (x + w ≤ length (now rings))) × ((at + rowBytes w ≤ length (now hang)) × Ones (now ones)) ⌝ }
+    ensures { λ r. ⌜ Least 0 w (bareIn (now (hang .entry)) (now (rings .entry)) at x) r ⌝ }
+{
+    let mut c = 0;
+    let mut b = at;
+    while c + 32 <= w {
+        let k = bare_four(hang, rings, ones, b, x + c);
+        if k < 32 {
+            return c + k;
+        }
+        c += 32;
+        b += 4;
+    }
+    c + bare_bytes(hang, rings, ones, b, x + c, w - c)
+}
+
 // The same. A row in which nothing hangs is passed over.
 fn unheld_row(hang: &[u8], rings: &[u16], ones: &[u16], at: usize, x: usize, w: usize) -> usize
     requires { ⌜ ((w ≤ 256) × (x + w ≤ length (now rings))) × ((at + rowBytes w ≤ length (now hang)) × Ones (now ones)) ⌝ }
@@ -78,7 +107,7 @@ fn unheld_row(hang: &[u8], rings: &[u16], ones: &[u16], at: usize, x: usize, w: 
     if !image::planes::any(hang, at, at + rb) {
         return w;
     }
-    bare_bytes(hang, rings, ones, at, x, w)
+    bare_row(hang, rings, ones, at, x, w)
 }
 
 // The first unheld pixel of a plane of hanging pixels.
@@ -141,11 +170,10 @@ fn unheld_pairs(
 {
     let bytes = h * limits::row_bytes(w);
     let area = h * w;
-    let pairs = n - 1;
     let mut at = 0;
     let mut x = 0;
     let mut i = 0;
-    while i < pairs {
+    while i + 1 < n {
         let mid = at + bytes;
         let end = mid + bytes;
         let next = x + area;

@@ -1,6 +1,6 @@
 use mathlib.Core.Path.{_≡_}
-use Rattle.places.specs.Quick.{seed-byte, free-byte}
-use Rattle.places.specs.Sound.{seedBits, freeBit}
+use Rattle.places.specs.Quick.{free-byte}
+use Rattle.places.specs.Sound.{freeBit}
 use Rattle.image.specs.Filling.{Filling, filling-none, filling-more, filling-all}
 use Prim.Native.Nat.{_≤_, _-_, _+_}
 use native.Mathlib.Omega.{arith}

@@ -1,6 +1,6 @@
 use Rattle.places.specs.Quick.{marked-more}
 use lib.ListN.{getD, length, length-set}
-use Prim.Native.Nat.{ℕ, _≤_, _<_, _-_, _+_, _*_, _/_}
+use Prim.Native.Nat.{ℕ, _≤_, _<_, _-_, _*_, _/_}
 use mathlib.Core.Path.{_≡_, refl}
 use native.Mathlib.Omega.{arith}
 use borrow.Author.Needs.{needs}

@@ -2,7 +2,6 @@ use Rattle.image.specs.Planes.{zero-ready}
 use Rattle.places.specs.Finding.{least-none}
 use Rattle.chains.specs.Trust.{near-search}
 use Rattle.chains.specs.Scratch.{sizes-of}
-use mathlib.Core.Path.{refl}
 use Rattle.rules.specs.Images.{rowBytes}
 use Rattle.image.specs.Rows.{packed}
 use lib.ListN.{getD}

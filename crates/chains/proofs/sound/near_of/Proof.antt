@@ -1,7 +1,6 @@
 use Prim.Native.Nat.{_+_}
 use Rattle.image.specs.Planes.{zero-ready}
 use Rattle.chains.specs.Scratch.{drawn-ready, drawn-st, near-drawn, st-ready, st-sizes}
-use native.Mathlib.Omega.{arith}
 use borrow.Author.Needs.{needs}
 use Rattle.chains.proofs.sound.near_of.Statement.{statement}
 use Rattle.chains.proofs.sound.near_of.Tie as tie

@@ -1,9 +1,6 @@
 use Rattle.chains.specs.Trust.{sound-small}
-use Rattle.rules.specs.Images.{rowBytes}
 use Rattle.image.specs.Rows.{packed}
 use lib.ListN.{getD}
-use Prim.Native.Nat.{_+_}
-use native.Mathlib.Omega.{arith}
 use borrow.Author.Needs.{needs}
 use Rattle.chains.proofs.sound.sound_small.Statement.{statement}
 use Rattle.chains.proofs.sound.sound_small.Tie as tie

@@ -2,7 +2,6 @@ use Rattle.places.specs.Quick.{good-first, good-step}
 use borrow.Author.Tests.{not-false}
 use mathlib.Core.Path.{refl}
 use Rattle.laws.specs.Tests.{clash}
-use native.Mathlib.Omega.{arith}
 use borrow.Author.Needs.{needs}
 use Rattle.chains.proofs.steps.good.Statement.{statement}
 use Rattle.chains.proofs.steps.good.Tie as tie

@@ -3,10 +3,9 @@ use Rattle.places.specs.Rows.{area-fit, stretch-in}
 use borrow.Author.Tests.{not-false}
 use Rattle.places.specs.Sound.{Good}
 use Rattle.laws.specs.Tests.{clash}
-use lib.ListN.{getD}
 use mathlib.Core.Logic.{⊎-elim}
-use mathlib.Core.Path.{_∙_, _≡_, refl, sym}
-use Prim.Native.Nat.{_*_, _+_, _-_, _<_, _≤_, ℕ}
+use mathlib.Core.Path.{refl}
+use Prim.Native.Nat.{_*_, _-_, _<_, _≤_, ℕ}
 use native.Mathlib.Omega.{arith}
 use borrow.Author.Needs.{needs}
 use Rattle.chains.proofs.steps.good_from.Statement.{statement}

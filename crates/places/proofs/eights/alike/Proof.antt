@@ -1,10 +1,8 @@
-use Rattle.places.specs.Quick.{ones-at, xor-same, lone-none}
+use Rattle.places.specs.Quick.{ones-at, xor-same}
 use Rattle.places.specs.Rows.{gather-more}
 use Rattle.rules.specs.Images.{bitAt}
 use Rattle.rules.specs.Tools.{bit}
 use borrow.Author.Tests.{eqb-true}
-use mathlib.Core.Bool.{_&&_, false}
-use lib.Dec.{eqb}
 use lib.ListN.{getD}
 use Prim.Native.Nat.{ℕ, _≤_, _<_, _-_, _+_, _*_}
 use mathlib.Core.Path.{_≡_, ap, _∙_}

@@ -1,13 +1,12 @@
-use Rattle.places.specs.Quick.{ones-at, xor-same, lone-none}
+use Rattle.places.specs.Quick.{ones-at, lone-none}
 use Rattle.places.specs.Rows.{gather-more}
 use Rattle.rules.specs.Images.{bitAt}
-use Rattle.rules.specs.Tools.{bit}
 use borrow.Author.Tests.{eqb-true}
 use mathlib.Core.Bool.{_&&_, false}
 use lib.Dec.{eqb}
 use lib.ListN.{getD}
 use Prim.Native.Nat.{ℕ, _≤_, _<_, _-_, _+_, _*_}
-use mathlib.Core.Path.{_≡_, ap, _∙_}
+use mathlib.Core.Path.{_≡_, ap}
 use native.Mathlib.Omega.{arith}
 use borrow.Author.Needs.{needs}
 use Rattle.places.proofs.eights.covered.Statement.{statement}

@@ -1,5 +1,4 @@
 use Rattle.places.specs.Quick.{digit-one, digit-none}
-use native.Mathlib.Omega.{arith}
 use borrow.Author.Needs.{needs}
 use Rattle.places.proofs.eights.digit.Statement.{statement}
 use Rattle.places.proofs.eights.digit.Tie as tie

@@ -3,7 +3,7 @@ use Rattle.rules.specs.Images.{bitAt}
 use Rattle.rules.specs.Tools.{bit}
 use lib.ListN.{length, getD, length-set}
 use Prim.Native.Nat.{ℕ, _≤_, _<_, _-_, _/_, _%_}
-use mathlib.Core.Path.{_≡_, refl}
+use mathlib.Core.Path.{_≡_}
 use native.Mathlib.Omega.{arith}
 use borrow.Author.Needs.{needs}
 use Rattle.places.proofs.eights.fill_ones.Statement.{statement}

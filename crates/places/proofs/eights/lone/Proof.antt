@@ -1,6 +1,4 @@
 use borrow.Author.Tests.{eq-eqb, ne-eqb}
-use native.Mathlib.Omega.{arith}
-use borrow.Author.Needs.{needs}
 use Rattle.places.proofs.eights.lone.Statement.{statement}
 use Rattle.places.proofs.eights.lone.Tie as tie
 use Rattle.places.proofs.eights.lone.Reads as reads

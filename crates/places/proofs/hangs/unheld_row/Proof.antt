@@ -1,13 +1,12 @@
 use borrow.Author.Tests.{not-true}
 use Rattle.places.specs.Rows.{no-bare}
-use native.Mathlib.Omega.{arith}
 use borrow.Author.Needs.{needs}
 use Rattle.places.proofs.hangs.unheld_row.Statement.{statement}
 use Rattle.places.proofs.hangs.unheld_row.Tie as tie
 use Rattle.places.proofs.hangs.unheld_row.Reads as reads
 use Rattle.places.proofs.hangs.unheld_row.Lts as lts
 use Rattle.image.proofs.planes.any.Reads as any-reads
-use Rattle.places.proofs.hangs.bare_bytes.Reads as bare-bytes-reads
+use Rattle.places.proofs.hangs.bare_row.Reads as bare-row-reads
 use Rattle.limits.proofs.row_bytes.Reads as row-bytes-reads
 
 row-bytes-requires : tie.Need-row-bytes-requires
@@ -22,8 +21,8 @@ any-requires c κs = search needs
 returns : tie.Need-returns
 returns c = no-bare (c .before .before .before .before .before .before .args .hang .now) (c .before .before .before .before .before .before .args .rings .now) (c .before .before .before .before .before .before .args .at) (c .before .before .before .before .before .before .args .x) (c .before .before .before .before .before .before .args .w) (c .before .before .row-bytes .result) (c .before .before .row-bytes .ensures .0) (c .before .any .ensures (not-true _ (c .if1 .taken)))
 
-bare-bytes-requires : tie.Need-bare-bytes-requires
-bare-bytes-requires c κs = search needs
+bare-row-requires : tie.Need-bare-row-requires
+bare-row-requires c κs = search needs
 
 returns-2 : tie.Need-returns-2
 returns-2 c = search needs
@@ -31,4 +30,4 @@ returns-2 c = search needs
 pub unheld-row-spec : {M : Type 1} → statement M
 unheld-row-spec =
     tie.close
-    (tie.spec row-bytes-requires add-any any-requires returns bare-bytes-requires returns-2)
+    (tie.spec row-bytes-requires add-any any-requires returns bare-row-requires returns-2)
