@@ -89,10 +89,10 @@ pub fn around(plane: &[u16], w: usize, h: usize, r: usize, c: usize, base: usize
     min2(min2(x, y), z)
 }
 
-// The row eight further, and h where there is none.
-pub fn eight_on(r: usize, h: usize) -> usize
-    requires { ⌜ (r < h) × (h ≤ 256) ⌝ }
-    ensures { λ e. ⌜ (r < e) × (e ≤ h) ⌝ }
+// The place n further, and the end where there is none.
+pub fn ahead(at: usize, n: usize, end: usize) -> usize
+    requires { ⌜ (at < end) × (end ≤ 256) × (0 < n) × (n ≤ 8) ⌝ }
+    ensures { λ e. ⌜ (at < e) × (e ≤ end) ⌝ }
 {
-    if r + 8 < h { r + 8 } else { h }
+    if at + n < end { at + n } else { end }
 }

@@ -135,7 +135,7 @@ fn sweep(
     let mut r: usize = 0;
     while r < h {
         let y = r;
-        r = crate::levels::eight_on(y, h);
+        r = crate::levels::ahead(y, 8, h);
         if image::planes::any(marks, (y + 1) * st, (r + 1) * st) {
             if sweep_rows(ring, marks, got, cand, w, h, st, y, r) {
                 changed = true;

@@ -23,8 +23,8 @@ abbrev μ-loop : tie.MeasureT-loop
 loop-holds : tie.Need-loop-holds Inv-loop μ-loop
 loop-holds c = let A = c .before .before .before .before .args in (omega arith, refl, refl, c .before .before .before .before .pre, moved-none (A .ring .now) (A .marks .now), (λ e j x y. absurd (omega arith)), λ f s n G. G)
 
-eight-on-requires : tie.Need-eight-on-requires Inv-loop μ-loop
-eight-on-requires c κs = (c .loop-test .taken, c .before .loop .inv .3 .sizes .h-max)
+ahead-requires : tie.Need-ahead-requires Inv-loop μ-loop
+ahead-requires c κs = (c .loop-test .taken, c .before .loop .inv .3 .sizes .h-max, omega arith, omega arith)
 
 add-any : tie.Need-add-any Inv-loop μ-loop
 add-any c = search needs
@@ -36,23 +36,23 @@ add-any-2 : tie.Need-add-any-2 Inv-loop μ-loop
 add-any-2 c = search needs
 
 mul-any-2 : tie.Need-mul-any-2 Inv-loop μ-loop
-mul-any-2 c = let A = c .before .before .before .before .before .before .before .before .args in let L = c .before .before .before .loop in let K = L .inv .3 in let e = c .before .eight-on in let m : e .result + 1 ≤ A .h + 1 = omega (arith, e .ensures) in omega (arith, size-max (A .w) (A .h) (A .st) (K .sizes), mul-le-mul-right (A .st) m)
+mul-any-2 c = let A = c .before .before .before .before .before .before .before .before .args in let L = c .before .before .before .loop in let K = L .inv .3 in let e = c .before .ahead in let m : e .result + 1 ≤ A .h + 1 = omega (arith, e .ensures) in omega (arith, size-max (A .w) (A .h) (A .st) (K .sizes), mul-le-mul-right (A .st) m)
 
 any-requires : tie.Need-any-requires Inv-loop μ-loop
-any-requires c κs = let A = c .before .before .before .before .before .before .before .before .args in let L = c .before .before .before .loop in let K = L .inv .3 in let e = c .before .eight-on in
+any-requires c κs = let A = c .before .before .before .before .before .before .before .before .args in let L = c .before .before .before .loop in let K = L .inv .3 in let e = c .before .ahead in
     let m : e .result + 1 ≤ A .h + 1 = omega (arith, e .ensures) in
     let k : L .r + 1 ≤ e .result + 1 = omega (arith, e .ensures) in
     omega (arith, size-max (A .w) (A .h) (A .st) (K .sizes), mul-le-mul-right (A .st) m, mul-le-mul-right (A .st) k, K .marks-long)
 
 sweep-rows-requires : tie.Need-sweep-rows-requires Inv-loop μ-loop
-sweep-rows-requires c κs = let e = c .before .before .before .before .before .before .eight-on in (c .before .before .before .before .before .before .before .before .loop .inv .3, (omega (arith, e .ensures), e .ensures .1))
+sweep-rows-requires c κs = let e = c .before .before .before .before .before .before .ahead in (c .before .before .before .before .before .before .before .before .loop .inv .3, (omega (arith, e .ensures), e .ensures .1))
 
 loop-less : tie.Need-loop-less Inv-loop μ-loop
-loop-less c = let e = c .before .before .before .before .before .before .before .before .before .before .before .before .before .before .eight-on in omega (arith, e .ensures, c .before .before .before .before .before .before .before .before .before .before .before .before .before .before .before .loop-test .taken)
+loop-less c = let e = c .before .before .before .before .before .before .before .before .before .before .before .before .before .before .ahead in omega (arith, e .ensures, c .before .before .before .before .before .before .before .before .before .before .before .before .before .before .before .loop-test .taken)
 
 loop-again : tie.Need-loop-again Inv-loop μ-loop
 loop-again c = let L = c .before .before .before .before .before .before .before .before .before .before .before .before .before .before .before .before .loop in let S = c .before .before .before .before .before .before .before .sweep-rows in (
-  c .before .before .before .before .before .before .before .before .before .before .before .before .before .before .eight-on .ensures .1,
+  c .before .before .before .before .before .before .before .before .before .before .before .before .before .before .ahead .ensures .1,
   S .kept .1 .0 ∙ L .inv .1,
   S .kept .1 .1 .0 ∙ L .inv .2,
   S .ensures .0,
@@ -62,10 +62,10 @@ loop-again c = let L = c .before .before .before .before .before .before .before
 )
 
 loop-less-2 : tie.Need-loop-less-2 Inv-loop μ-loop
-loop-less-2 c = let e = c .before .before .before .before .before .before .before .before .before .before .before .before .before .before .eight-on in omega (arith, e .ensures, c .before .before .before .before .before .before .before .before .before .before .before .before .before .before .before .loop-test .taken)
+loop-less-2 c = let e = c .before .before .before .before .before .before .before .before .before .before .before .before .before .before .ahead in omega (arith, e .ensures, c .before .before .before .before .before .before .before .before .before .before .before .before .before .before .before .loop-test .taken)
 
 loop-again-2 : tie.Need-loop-again-2 Inv-loop μ-loop
-loop-again-2 c = let A = c .before .before .before .before .before .before .before .before .before .before .before .before .before .before .before .before .before .before .before .before .before .args in let L = c .before .before .before .before .before .before .before .before .before .before .before .before .before .before .before .before .loop in let S = c .before .before .before .before .before .before .before .sweep-rows in let e = c .before .before .before .before .before .before .before .before .before .before .before .before .before .before .eight-on in (
+loop-again-2 c = let A = c .before .before .before .before .before .before .before .before .before .before .before .before .before .before .before .before .before .before .before .before .before .args in let L = c .before .before .before .before .before .before .before .before .before .before .before .before .before .before .before .before .loop in let S = c .before .before .before .before .before .before .before .sweep-rows in let e = c .before .before .before .before .before .before .before .before .before .before .before .before .before .before .ahead in (
   e .ensures .1,
   S .kept .1 .0 ∙ L .inv .1,
   S .kept .1 .1 .0 ∙ L .inv .2,
@@ -78,10 +78,10 @@ loop-again-2 c = let A = c .before .before .before .before .before .before .befo
 )
 
 loop-less-3 : tie.Need-loop-less-3 Inv-loop μ-loop
-loop-less-3 c = let e = c .before .before .before .eight-on in omega (arith, e .ensures, c .before .before .before .before .loop-test .taken)
+loop-less-3 c = let e = c .before .before .before .ahead in omega (arith, e .ensures, c .before .before .before .before .loop-test .taken)
 
 loop-again-3 : tie.Need-loop-again-3 Inv-loop μ-loop
-loop-again-3 c = let A = c .before .before .before .before .before .before .before .before .before .before .args in let L = c .before .before .before .before .before .loop in let e = c .before .before .before .eight-on in (
+loop-again-3 c = let A = c .before .before .before .before .before .before .before .before .before .before .args in let L = c .before .before .before .before .before .loop in let e = c .before .before .before .ahead in (
   e .ensures .1,
   L .inv .1,
   L .inv .2,
@@ -112,7 +112,7 @@ sweep-spec =
     Inv-loop
     μ-loop
     loop-holds
-    eight-on-requires
+    ahead-requires
     add-any
     mul-any
     add-any-2
