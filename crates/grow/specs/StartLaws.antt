@@ -3,18 +3,18 @@ use mathlib.Core.Path.{_≡_, refl, sym, ap, ap₂, subst, _∙_}
 use mathlib.Core.List.{List}
 use mathlib.Core.Bool.{Bool, true, false, _&&_, _||_, cond}
 use Prim.Native.Nat.{ℕ, zero, suc, _+_, _-_, _*_, _/_, _%_, _^_, _≤_, _<_}
-use native.Mathlib.Nat.{mod-lt, div-add-mod', div-lt-iff-lt-mul, add-zero, add-suc, mul-le-mul-right}
+use native.Mathlib.Nat.{mod-lt, div-add-mod', div-lt-iff-lt-mul, add-zero, mul-le-mul-right}
 use native.Mathlib.Decide.{ℕ-discrete}
 use native.Mathlib.Omega.{arith}
 use lib.Arith.{digits-lt, digits-div, digits-mod}
-use lib.Bits.{bitAnd, and-mask}
+use lib.Bits.{bitAnd, bitOr, and-mask}
 use lib.Seq.{getD-set-same, getD-set-other}
 use lib.Dec.{eqb}
 use lib.ListN.{length, getD, set}
 use Rattle.rules.specs.Images.{bitAt}
 use Rattle.rules.specs.Tools.{some}
 use Rattle.laws.specs.Tests.{split, bool-eq, clash, and-l, and-r, and-in, some-in, some-out}
-use Rattle.image.specs.Bits.{zero-bit}
+use Rattle.image.specs.Bits.{zero-bit, or-none}
 use Rattle.image.specs.Filling.{bit-here}
 use Rattle.image.specs.Planes.{row-next, row-fits, wide-row, spot-one, spot-size}
 use Rattle.image.specs.Scratch.{bitOf, spot, Sizes, Framed, seen}
@@ -89,29 +89,47 @@ unfolding rowOnes byteOnes
 zero-row l i0 base n e x = some-none n (λ b. byteOnes (getD l (i0 + b) 0) (base + b * 8) 8 x)
     (λ b lb. some-none 8 (λ k. eqb x (base + b * 8 + k) && bitAt (getD l (i0 + b) 0) k) (λ k lk. no-bit (getD l (i0 + b) 0) (base + b * 8) k (sym (bit-here l (i0 + b) k lk) ∙ e ((i0 + b) * 8 + k) (omega arith) (omega arith)) x))
 
--- rows with nothing to write
-rows-skip : (l : List ℕ) (w st a n : ℕ) → ((j : ℕ) → (a + 1) * st * 8 ≤ j → j < (a + n + 1) * st * 8 → bitOf l j ≡ false) → (x : ℕ) → allOnes l w st (a + n) x ≡ allOnes l w st a x
-unfolding allOnes
-rows-skip l w st a zero e x = ap (λ (k : ℕ). some k (λ r. rowOnes l ((r + 1) * st) (r * w) st x)) (add-zero a)
-rows-skip l w st a (suc n) e x =
-    ap (λ (k : ℕ). some k (λ r. rowOnes l ((r + 1) * st) (r * w) st x)) (add-suc a n) ∙ some-next (a + n) (λ r. rowOnes l ((r + 1) * st) (r * w) st x)
-    (zero-row l ((a + n + 1) * st) ((a + n) * w) st
-    (λ j u v. e j (omega (arith, mul-le-mul-right st (le-add a n))) (omega (arith, row-next (a + n + 1) st, ap (λ (k : ℕ). k * st) (shift a n)))) x)
-    ∙ rows-skip l w st a n (λ j u v. e j u (omega (arith, row-next (a + n + 1) st, ap (λ (k : ℕ). k * st) (shift a n)))) x
+-- four bytes that come to 0
+pub four-zero : (l : List ℕ) (a b : ℕ) → b ≡ a + 4 → bitOr (bitOr (bitOr (getD l a 0) (getD l (a + 1) 0)) (getD l (a + 2) 0)) (getD l (a + 3) 0) ≡ 0 → (i : ℕ) → a ≤ i → i < b → getD l i 0 ≡ 0
+four-zero l a b eb e i u v =
+    let (x, z3) = or-none (bitOr (bitOr (getD l a 0) (getD l (a + 1) 0)) (getD l (a + 2) 0)) (getD l (a + 3) 0) e in
+    let (y, z2) = or-none (bitOr (getD l a 0) (getD l (a + 1) 0)) (getD l (a + 2) 0) x in
+    let (z0, z1) = or-none (getD l a 0) (getD l (a + 1) 0) y in
+    elim (ℕ-discrete i a) [
+      | yes t ↦ ap (λ (n : ℕ). getD l n 0) t ∙ z0
+      | no t0 ↦ elim (ℕ-discrete i (a + 1)) [
+        | yes t ↦ ap (λ (n : ℕ). getD l n 0) t ∙ z1
+        | no t1 ↦ elim (ℕ-discrete i (a + 2)) [
+          | yes t ↦ ap (λ (n : ℕ). getD l n 0) t ∙ z2
+          | no t2 ↦ let t : i ≡ a + 3 = omega arith in ap (λ (n : ℕ). getD l n 0) t ∙ z3
+        ]
+      ]
+    ]
+
+-- what is skipped adds nothing
+some-skip : (f : ℕ → Bool) (a n : ℕ) → ((k : ℕ) → a ≤ k → k < a + n → f k ≡ false) → some (a + n) f ≡ some a f
+some-skip f a zero e = ap (λ (k : ℕ). some k f) (add-zero a)
+some-skip f a (suc n) e =
+    ap (λ (k : ℕ). some k f) (shift a n) ∙ some-suc (a + n) f ∙ ap (λ (b : Bool). b || some (a + n) f) (e (a + n) (omega arith) (omega arith)) ∙ some-skip f a n (λ k x y. e k x (omega arith))
   where
-    shift : (a n : ℕ) → a + suc n + 1 ≡ a + n + 1 + 1
+    shift : (a n : ℕ) → a + suc n ≡ a + n + 1
     shift a n = omega arith
 
-    le-add : (a n : ℕ) → a + 1 ≤ a + n + 1
-    le-add a n = omega arith
-
-    some-next : (n : ℕ) (f : ℕ → Bool) → f n ≡ false → some (suc n) f ≡ some n f
-    some-next n f z = ap (λ (k : ℕ). some k f) (sym (native.Mathlib.Numerals.add-one n)) ∙ some-suc n f ∙ ap (λ (b : Bool). b || some n f) z
-
-pub rows-skip-to : (l : List ℕ) (w st a e : ℕ) → a ≤ e → ((j : ℕ) → (a + 1) * st * 8 ≤ j → j < (e + 1) * st * 8 → bitOf l j ≡ false) → (x : ℕ) → allOnes l w st e x ≡ allOnes l w st a x
-rows-skip-to l w st a e h =
+some-skip-to : (f : ℕ → Bool) (a e : ℕ) → a ≤ e → ((k : ℕ) → a ≤ k → k < e → f k ≡ false) → some e f ≡ some a f
+some-skip-to f a e h =
     let q : a + (e - a) ≡ e = omega arith in
-    subst (λ (k : ℕ). ((j : ℕ) → (a + 1) * st * 8 ≤ j → j < (k + 1) * st * 8 → bitOf l j ≡ false) → (x : ℕ) → allOnes l w st k x ≡ allOnes l w st a x) q (rows-skip l w st a (e - a))
+    subst (λ (m : ℕ). ((k : ℕ) → a ≤ k → k < m → f k ≡ false) → some m f ≡ some a f) q (some-skip f a (e - a))
+
+pub bytes-skip : (l : List ℕ) (i0 base a e : ℕ) → a ≤ e → ((i : ℕ) → i0 + a ≤ i → i < i0 + e → getD l i 0 ≡ 0) → (x : ℕ) → rowOnes l i0 base e x ≡ rowOnes l i0 base a x
+unfolding rowOnes
+bytes-skip l i0 base a e h z x = some-skip-to (λ b. byteOnes (getD l (i0 + b) 0) (base + b * 8) 8 x) a e h (λ b u v. zero-byte (getD l (i0 + b) 0) (base + b * 8) (z (i0 + b) (omega arith) (omega arith)) x)
+
+pub rows-skip : (l : List ℕ) (w st a e : ℕ) → a ≤ e → ((j : ℕ) → (a + 1) * st * 8 ≤ j → j < (e + 1) * st * 8 → bitOf l j ≡ false) → (x : ℕ) → allOnes l w st e x ≡ allOnes l w st a x
+unfolding allOnes
+rows-skip l w st a e h z x = some-skip-to (λ r. rowOnes l ((r + 1) * st) (r * w) st x) a e h (λ r u v.
+    let low : a + 1 ≤ r + 1 = omega arith in
+    let high : r + 1 + 1 ≤ e + 1 = omega arith in
+    zero-row l ((r + 1) * st) (r * w) st (λ j p q. z j (omega (arith, mul-le-mul-right st low)) (omega (arith, row-next (r + 1) st, mul-le-mul-right st high))) x)
 
 -- all of them
 module _ (w h st : ℕ) (z : Sizes w h st) (l : List ℕ) (fr : Framed w h st l) where

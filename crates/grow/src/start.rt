@@ -35,7 +35,48 @@ fn fill_byte(ring: &mut [u16], m: u8, base: usize, v: u16)
     }
 }
 
-// Writes v at the pixels of one row.
+// Whether the bytes from a up to b are four that are all 0.
+fn quiet(l: &[u8], a: usize, b: usize) -> bool
+    requires { ⌜ (a < b) × (b ≤ length (now l)) ⌝ }
+    ensures { λ d. ⌜ (d ≡ true → (i : ℕ) → a ≤ i → i < b → getD (now (l .entry)) i 0 ≡ 0) ⌝ }
+{
+    if b - a != 4 {
+        return false;
+    }
+    l[a] | l[a + 1] | l[a + 2] | l[a + 3] == 0
+}
+
+// Writes v at the pixels of the bytes from a up to b of row r, after those before a.
+fn fill_bytes(
+    ring: &mut [u16],
+    l: &[u8],
+    v: u16,
+    w: usize,
+    h: usize,
+    st: usize,
+    r: usize,
+    a: usize,
+    b: usize,
+)
+    requires { ⌜ Sizes w h st ⌝ }
+    requires { ⌜ Framed w h st (now l) ⌝ }
+    requires { ⌜ (r < h) × (8704 ≤ length (now l)) × (length (now ring) ≡ h * w) × (a ≤ b) × (b ≤ st) ⌝ }
+    ensures { λ _. ⌜ ((was : List ℕ) → Filled v (rowOnes (now (l .entry)) ((r + 1) * st) (r * w) a) (now (ring .entry)) was → Filled v (rowOnes (now (l .entry)) ((r + 1) * st) (r * w) b) (now (ring .exit)) was) ⌝ }
+{
+    let i0 = (r + 1) * st;
+    let base = r * w;
+    let mut k = a;
+    while k < b {
+        let y = k;
+        k += 1;
+        let m = l[i0 + y];
+        if m != 0 {
+            fill_byte(ring, m, base + y * 8, v);
+        }
+    }
+}
+
+// Writes v at the pixels of one row, four bytes at a time.
 fn fill_row(ring: &mut [u16], l: &[u8], v: u16, w: usize, h: usize, st: usize, r: usize)
     requires { ⌜ Sizes w h st ⌝ }
     requires { ⌜ Framed w h st (now l) ⌝ }
@@ -43,14 +84,12 @@ fn fill_row(ring: &mut [u16], l: &[u8], v: u16, w: usize, h: usize, st: usize, r
     ensures { λ _. ⌜ Filled v (rowOnes (now (l .entry)) ((r + 1) * st) (r * w) st) (now (ring .exit)) (now (ring .entry)) ⌝ }
 {
     let i0 = (r + 1) * st;
-    let base = r * w;
     let mut b: usize = 0;
     while b < st {
         let a = b;
-        b += 1;
-        let m = l[i0 + a];
-        if m != 0 {
-            fill_byte(ring, m, base + a * 8, v);
+        b = relax::levels::ahead(a, 4, st);
+        if !quiet(l, i0 + a, i0 + b) {
+            fill_bytes(ring, l, v, w, h, st, r, a, b);
         }
     }
 }
@@ -72,14 +111,6 @@ fn fill_rows(ring: &mut [u16], l: &[u8], v: u16, w: usize, h: usize, st: usize, 
     }
 }
 
-// The row eight further, and h where there is none.
-fn eight_on(r: usize, h: usize) -> usize
-    requires { ⌜ (r < h) × (h ≤ 256) ⌝ }
-    ensures { λ e. ⌜ (r < e) × (e ≤ h) ⌝ }
-{
-    if r + 8 < h { r + 8 } else { h }
-}
-
 // Writes v at the pixels of a plane, eight rows at a time: most have none.
 pub fn fill(ring: &mut [u16], l: &[u8], v: u16, w: usize, h: usize, st: usize)
     requires { ⌜ Sizes w h st ⌝ }
@@ -90,7 +121,7 @@ pub fn fill(ring: &mut [u16], l: &[u8], v: u16, w: usize, h: usize, st: usize)
     let mut r: usize = 0;
     while r < h {
         let y = r;
-        r = eight_on(y, h);
+        r = relax::levels::ahead(y, 8, h);
         if image::planes::any(l, (y + 1) * st, (r + 1) * st) {
             fill_rows(ring, l, v, w, h, st, y, r);
         }

@@ -3,72 +3,59 @@ use Prim.Native.Nat.{ℕ, _≤_, _-_, _+_, _*_}
 use native.Mathlib.Omega.{arith}
 use borrow.Author.Needs.{needs}
 use lib.ListN.{length, getD}
+use borrow.Author.Tests.{not-false}
 use Rattle.image.specs.Planes.{size-max, row-fits}
-use Rattle.grow.specs.LeastLaws.{plane-max}
-use Rattle.grow.specs.StartLaws.{Filled, byteOnes, rowOnes, filled-none, filled-more, filled-skip, zero-byte, bit-room}
+use Rattle.grow.specs.StartLaws.{Filled, byteOnes, rowOnes, filled-none, filled-same, bytes-skip}
 use Rattle.grow.proofs.start.fill_row.Statement.{statement}
 use Rattle.grow.proofs.start.fill_row.Tie as tie
 
 abbrev Inv-loop : tie.InvT-loop
-Inv-loop ring₀ l v w h st r i0 base b₀ ring b =
+Inv-loop ring₀ l v w h st r i0 b₀ ring b =
     (b ≤ st) × (length ring ≡ length ring₀) × Filled v (rowOnes l ((r + 1) * st) (r * w) b) ring ring₀
 
 abbrev μ-loop : tie.MeasureT-loop
-μ-loop ring₀ l v w h st r i0 base b₀ ring b = st - b
+μ-loop ring₀ l v w h st r i0 b₀ ring b = st - b
 
 add-i0 : tie.Need-add-i0 Inv-loop μ-loop
 add-i0 c = search needs
 
 mul-i0 : tie.Need-mul-i0 Inv-loop μ-loop
-mul-i0 c = let A = c .before .before .args in let P = c .before .before .pre in let SM = size-max (A .w) (A .h) (A .st) (P .0) in let Q = P .1 .1 in let RF = row-fits (A .r) (A .h) (A .w) (Q .0) in let RG = row-fits (A .r + 1) (A .h + 1) (A .st) (omega (arith, Q .0)) in let PM = plane-max (A .w) (A .h) (P .0 .w-max) (P .0 .h-max) in omega (arith, SM, RG)
-
-mul-base : tie.Need-mul-base Inv-loop μ-loop
-mul-base c = let A = c .before .before .args in let P = c .before .before .pre in let SM = size-max (A .w) (A .h) (A .st) (P .0) in let Q = P .1 .1 in let RF = row-fits (A .r) (A .h) (A .w) (Q .0) in let RG = row-fits (A .r + 1) (A .h + 1) (A .st) (omega (arith, Q .0)) in let PM = plane-max (A .w) (A .h) (P .0 .w-max) (P .0 .h-max) in omega (arith, RF, PM)
+mul-i0 c = let A = c .before .before .args in let P = c .before .before .pre in omega (arith, size-max (A .w) (A .h) (A .st) (P .0), row-fits (A .r + 1) (A .h + 1) (A .st) (omega (arith, P .1 .1 .0)))
 
 loop-holds : tie.Need-loop-holds Inv-loop μ-loop
 unfolding rowOnes
 loop-holds c = let A = c .before .before .args in (omega arith, refl, filled-none (A .v) (λ b x. byteOnes (getD (A .l .now) ((A .r + 1) * A .st + b) 0) (A .r * A .w + b * 8) 8 x) (A .ring .now))
 
-add-b : tie.Need-add-b Inv-loop μ-loop
-add-b c = let A = c .before .before .before .before .args in let P = c .before .before .before .before .pre in let SM = size-max (A .w) (A .h) (A .st) (P .0) in let Q = P .1 .1 in let RF = row-fits (A .r) (A .h) (A .w) (Q .0) in let RG = row-fits (A .r + 1) (A .h + 1) (A .st) (omega (arith, Q .0)) in let PM = plane-max (A .w) (A .h) (P .0 .w-max) (P .0 .h-max) in omega (arith, SM, c .loop-test .taken)
+ahead-requires : tie.Need-ahead-requires Inv-loop μ-loop
+ahead-requires c κs = let A = c .before .before .before .before .args in let P = c .before .before .before .before .pre in (c .loop-test .taken, omega (arith, size-max (A .w) (A .h) (A .st) (P .0)), omega arith, omega arith)
 
-add-m : tie.Need-add-m Inv-loop μ-loop
-add-m c = let A = c .before .before .before .before .args in let P = c .before .before .before .before .pre in let SM = size-max (A .w) (A .h) (A .st) (P .0) in let Q = P .1 .1 in let RF = row-fits (A .r) (A .h) (A .w) (Q .0) in let RG = row-fits (A .r + 1) (A .h + 1) (A .st) (omega (arith, Q .0)) in let PM = plane-max (A .w) (A .h) (P .0 .w-max) (P .0 .h-max) in omega (arith, SM, RG, c .loop-test .taken)
+add-quiet : tie.Need-add-quiet Inv-loop μ-loop
+add-quiet c = let A = c .before .before .before .before .before .args in let P = c .before .before .before .before .before .pre in let L = c .before .before .loop in omega (arith, c .before .loop-test .taken, size-max (A .w) (A .h) (A .st) (P .0), row-fits (A .r + 1) (A .h + 1) (A .st) (omega (arith, P .1 .1 .0)))
 
-shared-slice-read-m : tie.Need-shared-slice-read-m Inv-loop μ-loop
-shared-slice-read-m c = let A = c .before .before .before .before .before .args in let P = c .before .before .before .before .before .pre in let SM = size-max (A .w) (A .h) (A .st) (P .0) in let Q = P .1 .1 in let RF = row-fits (A .r) (A .h) (A .w) (Q .0) in let RG = row-fits (A .r + 1) (A .h + 1) (A .st) (omega (arith, Q .0)) in let PM = plane-max (A .w) (A .h) (P .0 .w-max) (P .0 .h-max) in omega (arith, SM, RG, Q .1, c .before .loop-test .taken)
+add-quiet-2 : tie.Need-add-quiet-2 Inv-loop μ-loop
+add-quiet-2 c = let A = c .before .before .before .before .before .args in let P = c .before .before .before .before .before .pre in let L = c .before .before .loop in let e = c .ahead in omega (arith, e .ensures, size-max (A .w) (A .h) (A .st) (P .0), row-fits (A .r + 1) (A .h + 1) (A .st) (omega (arith, P .1 .1 .0)))
 
-mul-fill-byte : tie.Need-mul-fill-byte Inv-loop μ-loop
-mul-fill-byte c = let A = c .before .before .before .before .before .before .before .args in let P = c .before .before .before .before .before .before .before .pre in let SM = size-max (A .w) (A .h) (A .st) (P .0) in let Q = P .1 .1 in let RF = row-fits (A .r) (A .h) (A .w) (Q .0) in let RG = row-fits (A .r + 1) (A .h + 1) (A .st) (omega (arith, Q .0)) in let PM = plane-max (A .w) (A .h) (P .0 .w-max) (P .0 .h-max) in omega (arith, SM, c .before .before .before .loop-test .taken)
+quiet-requires : tie.Need-quiet-requires Inv-loop μ-loop
+quiet-requires c κs = let A = c .before .before .before .before .before .args in let P = c .before .before .before .before .before .pre in let L = c .before .before .loop in let e = c .ahead in (omega (arith, e .ensures), omega (arith, e .ensures, P .1 .1 .1, size-max (A .w) (A .h) (A .st) (P .0), row-fits (A .r + 1) (A .h + 1) (A .st) (omega (arith, P .1 .1 .0))))
 
-add-fill-byte : tie.Need-add-fill-byte Inv-loop μ-loop
-add-fill-byte c = let A = c .before .before .before .before .before .before .before .args in let P = c .before .before .before .before .before .before .before .pre in let SM = size-max (A .w) (A .h) (A .st) (P .0) in let Q = P .1 .1 in let RF = row-fits (A .r) (A .h) (A .w) (Q .0) in let RG = row-fits (A .r + 1) (A .h + 1) (A .st) (omega (arith, Q .0)) in let PM = plane-max (A .w) (A .h) (P .0 .w-max) (P .0 .h-max) in omega (arith, SM, RF, PM, c .before .before .before .loop-test .taken)
-
-fill-byte-requires : tie.Need-fill-byte-requires Inv-loop μ-loop
-fill-byte-requires c κs = let A = c .before .before .before .before .before .before .before .args in let P = c .before .before .before .before .before .before .before .pre in let SM = size-max (A .w) (A .h) (A .st) (P .0) in let Q = P .1 .1 in let RF = row-fits (A .r) (A .h) (A .w) (Q .0) in let RG = row-fits (A .r + 1) (A .h + 1) (A .st) (omega (arith, Q .0)) in let PM = plane-max (A .w) (A .h) (P .0 .w-max) (P .0 .h-max) in let L = c .before .before .before .before .loop in
-    ((λ k lk u. omega (arith, L .inv .1, Q .2, bit-room (A .w) (A .h) (A .st) (P .0) (A .l .now) (P .1 .0) (A .r) (L .b) k (Q .0) (c .before .before .before .loop-test .taken) lk u)), omega (arith, SM, RF, PM, c .before .before .before .loop-test .taken))
+fill-bytes-requires : tie.Need-fill-bytes-requires Inv-loop μ-loop
+fill-bytes-requires c κs = let A = c .before .before .before .before .before .before .before .before .args in let P = c .before .before .before .before .before .before .before .before .pre in let L = c .before .before .before .before .before .loop in let e = c .before .before .before .ahead in (P .0, (P .1 .0, (P .1 .1 .0, P .1 .1 .1, L .inv .1 ∙ P .1 .1 .2, omega (arith, e .ensures), e .ensures .1)))
 
 loop-less : tie.Need-loop-less Inv-loop μ-loop
-loop-less c = omega (arith, c .before .before .before .before .before .before .loop-test .taken)
+loop-less c = let e = c .before .before .before .before .before .before .ahead in omega (arith, e .ensures, c .before .before .before .before .before .before .before .loop-test .taken)
 
 loop-again : tie.Need-loop-again Inv-loop μ-loop
-unfolding rowOnes
-loop-again c = let A = c .before .before .before .before .before .before .before .before .before .before .args in let L = c .before .before .before .before .before .before .before .loop in let O = c .before .before .fill-byte in (
-  omega (arith, c .before .before .before .before .before .before .loop-test .taken),
-  O .kept .0 ∙ L .inv .1,
-  filled-more (A .v) (λ b x. byteOnes (getD (A .l .now) ((A .r + 1) * A .st + b) 0) (A .r * A .w + b * 8) 8 x) (L .b) (O .last .0) (L .ring) (A .ring .now) (L .inv .2) (O .ensures),
-)
+loop-again c = let A = c .before .before .before .before .before .before .before .before .before .before .before .args in let L = c .before .before .before .before .before .before .before .before .loop in let e = c .before .before .before .before .before .before .ahead in let O = c .before .before .fill-bytes in (e .ensures .1, O .kept .0 ∙ L .inv .1, O .ensures (A .ring .now) (L .inv .2))
 
 loop-less-2 : tie.Need-loop-less-2 Inv-loop μ-loop
-loop-less-2 c = omega (arith, c .before .before .loop-test .taken)
+loop-less-2 c = let e = c .before .before .ahead in omega (arith, e .ensures, c .before .before .before .loop-test .taken)
 
 loop-again-2 : tie.Need-loop-again-2 Inv-loop μ-loop
-unfolding rowOnes
-loop-again-2 c = let A = c .before .before .before .before .before .before .args in let L = c .before .before .before .loop in (
-  omega (arith, c .before .before .loop-test .taken),
+loop-again-2 c = let A = c .before .before .before .before .before .before .before .args in let L = c .before .before .before .before .loop in let e = c .before .before .ahead in (
+  e .ensures .1,
   L .inv .1,
-  filled-more (A .v) (λ b x. byteOnes (getD (A .l .now) ((A .r + 1) * A .st + b) 0) (A .r * A .w + b * 8) 8 x) (L .b) (L .ring) (L .ring) (A .ring .now) (L .inv .2)
-      (filled-skip (A .v) (byteOnes (getD (A .l .now) ((A .r + 1) * A .st + L .b) 0) (A .r * A .w + L .b * 8) 8) (L .ring) (zero-byte (getD (A .l .now) ((A .r + 1) * A .st + L .b) 0) (A .r * A .w + L .b * 8) (c .if1 .left))),
+  filled-same (A .v) (rowOnes (A .l .now) ((A .r + 1) * A .st) (A .r * A .w) (L .b)) (rowOnes (A .l .now) ((A .r + 1) * A .st) (A .r * A .w) (e .result)) (L .ring) (A .ring .now)
+      (bytes-skip (A .l .now) ((A .r + 1) * A .st) (A .r * A .w) (L .b) (e .result) (omega (arith, e .ensures)) (c .before .quiet .ensures (not-false _ (c .if1 .left)))) (L .inv .2),
 )
 
 same-length : tie.Need-same-length Inv-loop μ-loop
@@ -85,14 +72,12 @@ fill-row-spec =
     μ-loop
     add-i0
     mul-i0
-    mul-base
     loop-holds
-    add-b
-    add-m
-    shared-slice-read-m
-    mul-fill-byte
-    add-fill-byte
-    fill-byte-requires
+    ahead-requires
+    add-quiet
+    add-quiet-2
+    quiet-requires
+    fill-bytes-requires
     loop-less
     loop-again
     loop-less-2
