@@ -17,11 +17,11 @@ use Rattle.image.specs.Loops.{Bits2, butNot}
 use Rattle.image.specs.Planes.{wide-row, spot-size, scratch-seen, scratch-op, scratch-same, framed-scratch}
 use Rattle.image.specs.Scratch.{bitOf, spot, Sizes, Framed, Scratch, seen}
 use Rattle.image.specs.TouchLaws.{touching-out}
-use Rattle.grow.specs.Fronts.{Apart, NearBy, Afloat, Waved, Still, Landed}
-use Rattle.grow.specs.LeastLaws.{plane-max}
-use Rattle.grow.specs.Marks.{Grows}
-use Rattle.grow.specs.Relaxing.{at-rest}
-use Rattle.grow.specs.Rings.{nearIn, later, Frame}
+use Rattle.grow.specs.Fronts.{nearIn, Apart, NearBy, Afloat, Waved, Still, Landed}
+use Rattle.relax.specs.LeastLaws.{plane-max}
+use Rattle.relax.specs.Marks.{Grows}
+use Rattle.relax.specs.Relaxing.{at-rest}
+use Rattle.relax.specs.Rings.{later, Frame}
 use Rattle.grow.specs.WaveLaws.{touching-same, waves-going}
 
 -- a pixel with a ring is one of the plane, and joined by as many steps as its ring says

@@ -9,7 +9,7 @@ use Rattle.laws.specs.Tests.{and-l}
 use Rattle.image.specs.Loops.{Bits2}
 use Rattle.image.specs.Planes.{scratch-op, scratch-seen, framed-scratch}
 use Rattle.image.specs.Scratch.{Sizes, Framed, Scratch, seen}
-use Rattle.grow.specs.Rings.{nearIn}
+use Rattle.grow.specs.Fronts.{nearIn}
 
 module _ (w h st : ℕ) (z : Sizes w h st) where
   pub free-is : (q : ℕ) (low sh nearL free : List ℕ) → Framed w h st sh → Scratch w h st (near w h q (seen w st low)) nearL → Bits2 ((h + 2) * st) _&&_ free sh nearL → Scratch w h st (nearIn w h q (seen w st low) (seen w st sh)) free

@@ -10,6 +10,10 @@ use Rattle.rules.specs.Images.{Plane}
 use Rattle.rules.specs.Planning.{near, source, touch, grown}
 use Rattle.image.specs.Scratch.{bitOf, Sizes, Ready, Scratch, seen}
 
+-- the pixels of a shadow that are near
+unfoldable pub nearIn : ℕ → ℕ → ℕ → Plane → Plane → Plane
+nearIn w h q low sh p = sh p && near w h q low p
+
 -- no pixel is in both planes
 abbrev pub Apart : ℕ → ℕ → ℕ → List ℕ → List ℕ → Type 0
 Apart w h st a b = (x : ℕ) → x < h * w → seen w st a x ≡ true → seen w st b x ≡ true → ⊥

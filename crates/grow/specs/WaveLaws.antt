@@ -26,7 +26,7 @@ use Rattle.image.specs.Planes.{wide-row, spot-size, scratch-seen}
 use Rattle.image.specs.Scratch.{bitOf, spot, Sizes, Framed, Scratch, seen}
 use Rattle.image.specs.TouchLaws.{touching-out, touching-in}
 use Rattle.grow.specs.Fronts.{Apart, Afloat, Waved}
-use Rattle.grow.specs.Rings.{level, sumBy, one, later, Frame, Going}
+use Rattle.relax.specs.Rings.{level, sumBy, one, later, Frame, Going}
 use Rattle.grow.specs.StartLaws.{Filled, allOnes, all-ones}
 
 pub touching-same : (w h st : ℕ) (z : Sizes w h st) (f g : Plane) → ((x : ℕ) → x < h * w → f x ≡ g x) → (p : ℕ) → touching (h * w) (touch w) f p ≡ touching (h * w) (touch w) g p

@@ -1,8 +1,5 @@
 // Rings of one pair of layers: over the near shadow pixels, from the seeds.
-pub mod levels;
-pub mod marks;
 pub mod start;
-pub mod sweeps;
 pub mod waves;
 
 ghost use mathlib.Core.Path.{_≡_};
@@ -12,8 +9,7 @@ ghost use lib.ListN.{length, getD};
 ghost use lib.Dec.{ltb};
 ghost use Rattle.rules.specs.Planning.{touch, grown};
 ghost use Rattle.image.specs.Scratch.{Drawn, Scratch, Ready, Sizes, seen};
-ghost use Rattle.grow.specs.Fronts.{Afloat, Apart, Landed, NearBy};
-ghost use Rattle.grow.specs.Rings.{nearIn};
+ghost use Rattle.grow.specs.Fronts.{Afloat, Apart, Landed, NearBy, nearIn};
 
 // The pixels of a plane that are near.
 fn near_in(lower: &[u8], plane: &[u8], out: &mut [u8], w: usize, h: usize, st: usize, q: usize)
@@ -53,7 +49,7 @@ fn onward(
     near_in(lower, left, &mut later, w, h, st, q);
     let mut marks = [0u8; 8704];
     image::planes::both(&next, &later, &mut marks, n);
-    crate::sweeps::settle(ring, &mut marks, excused, &later, w, h, st);
+    relax::sweeps::settle(ring, &mut marks, excused, &later, w, h, st);
 }
 
 // The rings over the near pixels of a plane, where what at most t waves over it reach is near.

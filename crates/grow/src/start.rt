@@ -35,14 +35,6 @@ fn fill_byte(ring: &mut [u16], m: u8, base: usize, v: u16)
     }
 }
 
-// The place n further, and the end where there is none.
-pub fn ahead(at: usize, n: usize, end: usize) -> usize
-    requires { ⌜ (at < end) × (end ≤ 256) × (0 < n) × (n ≤ 8) ⌝ }
-    ensures { λ e. ⌜ (at < e) × (e ≤ end) ⌝ }
-{
-    if at + n < end { at + n } else { end }
-}
-
 // Whether the bytes from a up to b are four that are all 0.
 fn quiet(l: &[u8], a: usize, b: usize) -> bool
     requires { ⌜ (a < b) × (b ≤ length (now l)) ⌝ }
@@ -95,7 +87,7 @@ fn fill_row(ring: &mut [u16], l: &[u8], v: u16, w: usize, h: usize, st: usize, r
     let mut b: usize = 0;
     while b < st {
         let a = b;
-        b = ahead(a, 4, st);
+        b = relax::levels::ahead(a, 4, st);
         if !quiet(l, i0 + a, i0 + b) {
             fill_bytes(ring, l, v, w, h, st, r, a, b);
         }
@@ -129,7 +121,7 @@ pub fn fill(ring: &mut [u16], l: &[u8], v: u16, w: usize, h: usize, st: usize)
     let mut r: usize = 0;
     while r < h {
         let y = r;
-        r = ahead(y, 8, h);
+        r = relax::levels::ahead(y, 8, h);
         if image::planes::any(l, (y + 1) * st, (r + 1) * st) {
             fill_rows(ring, l, v, w, h, st, y, r);
         }

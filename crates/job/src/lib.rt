@@ -40,7 +40,7 @@ pub fn read(file: &[u8]) -> ReadJob
 pub fn part(file: &[u8]) -> &[u8]
     ensures { λ r. ⌜ now r ≡ partAnswer (now (file .entry)) ⌝ }
 {
-    if read_refusal(file) != 0 {
+    if read_refusal(file) != 0 { // a refused job has no part
         return &file[..0];
     }
     let s = settings_in(file);
@@ -51,7 +51,7 @@ pub fn part(file: &[u8]) -> &[u8]
 pub fn support(file: &[u8]) -> &[u8]
     ensures { λ r. ⌜ now r ≡ supportAnswer (now (file .entry)) ⌝ }
 {
-    if read_refusal(file) != 0 {
+    if read_refusal(file) != 0 { // nor support
         return &file[..0];
     }
     let s = settings_in(file);

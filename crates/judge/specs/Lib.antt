@@ -1,2 +1,2 @@
-pub mod Search
-pub mod Sound
+-- Laws of the call.
+pub mod Verdicts

@@ -1,29 +1,19 @@
 // The checker, 'Judging a stack' of document 01: the call and its verdict.
-pub mod bits;
-pub mod eights;
-pub mod firsts;
-pub mod hangs;
-pub mod leaning;
-pub mod marks;
-pub mod overlaps;
 pub mod refusals;
-pub mod rings;
-pub mod sound;
-pub mod steps;
 
 use rules::Judged;
 use rules::Place;
 use rules::Settings;
 ghost use mathlib.Core.Path.{_≡_};
 ghost use mathlib.Core.Bool.{false};
-ghost use Prim.Native.Nat.{_<_, _≤_};
+ghost use Prim.Native.Nat.{_-_, _*_, _<_, _≤_};
 ghost use lib.ListN.{length};
-ghost use Rattle.rules.specs.Images.{rowsOf, stackBytes, paddingSet, ringsIn};
+ghost use Rattle.rules.specs.Images.{pixel, rowsOf, stackBytes, paddingSet, ringsIn, ringAt};
 ghost use Rattle.rules.specs.Reach.{boundOf};
-ghost use Rattle.rules.specs.Judging.{placeOf, verdictOf};
+ghost use Rattle.rules.specs.Judging.{badRing, placeOf, verdictOf};
 ghost use Rattle.rules.specs.Calls.{judgeAnswer};
 ghost use Rattle.laws.specs.Limits.{Ranged};
-ghost use Rattle.judge.specs.Search.{Sized};
+ghost use Rattle.places.specs.Search.{Least, flat, Sized};
 
 fn place_of(x: usize, w: usize, h: usize, up: usize) -> Place
     requires { ⌜ Sized w h × ((x < 4294967296) × (up ≤ 1)) ⌝ }
@@ -34,6 +24,17 @@ fn place_of(x: usize, w: usize, h: usize, up: usize) -> Place
         row: x / w % h,
         column: x % w,
     }
+}
+
+// The first bad ring of a stack that is not refused.
+fn bad_ring(s: Settings, part: &[u8], rings: &[u16]) -> usize
+    requires { ⌜ Ranged s × ((length (now part) ≡ stackBytes s) × ((paddingSet (s .w) (rowsOf s) (now part) ≡ false) × (length (now rings) ≡ ringsIn s))) ⌝ }
+    ensures { λ r. ⌜ Least 0 ((s .n - 1) * (s .h * s .w)) (flat (s .w) (s .h) (badRing (s .w) (s .h) (boundOf s) (pixel (s .w) (s .h) (now (part .entry))) (ringAt (s .w) (s .h) (now (rings .entry))))) r ⌝ }
+{
+    let pitch = s.pitch;
+    let overhang = s.overhang;
+    let reach = limits::reach_of(pitch, overhang);
+    chains::rings::bad_within(part, rings, s.w, s.h, s.n, reach.0 * reach.0)
 }
 
 // What is found in a stack that is not refused: overlap anywhere before any bad ring, and any bad ring before any unheld pixel.
@@ -47,15 +48,15 @@ fn verdict(s: Settings, part: &[u8], support: &[u8], rings: &[u16]) -> Judged
     let area = h * w;
     let pixels = n * area;
     let pairs = (n - 1) * area;
-    let o = crate::overlaps::overlap_at(part, support, w, h, n);
+    let o = places::overlaps::overlap_at(part, support, w, h, n);
     if o < pixels {
         return Judged::RefusedAt(9, place_of(o, w, h, 0));
     }
-    let b = crate::rings::bad_ring(s, part, rings);
+    let b = bad_ring(s, part, rings);
     if b < pairs {
         return Judged::RefusedAt(10, place_of(b, w, h, 1));
     }
-    let u = crate::hangs::unheld_at(part, support, rings, w, h, n);
+    let u = places::hangs::unheld_at(part, support, rings, w, h, n);
     if u < pairs {
         return Judged::RefusedAt(11, place_of(u, w, h, 1));
     }

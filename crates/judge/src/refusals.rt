@@ -4,27 +4,9 @@ ghost use mathlib.Core.Path.{_≡_};
 ghost use lib.ListN.{length};
 ghost use Rattle.rules.specs.Tools.{refusal};
 ghost use Rattle.rules.specs.Images.{stackBytes};
-ghost use Rattle.rules.specs.Calls.{lengthCases, judgeCases};
+ghost use Rattle.rules.specs.Calls.{judgeCases};
 ghost use Rattle.laws.specs.Limits.{Ranged};
-ghost use Rattle.judge.specs.Search.{padCases};
-
-// The refusals 4, 5 and 6 by the lengths of part, support and rings, 0 for none.
-fn lengths(s: Settings, part: usize, support: usize, rings: usize) -> u8
-    requires { ⌜ Ranged s ⌝ }
-    ensures { λ r. ⌜ r ≡ refusal (lengthCases s part support rings) ⌝ }
-{
-    let bytes = s.n * s.h * limits::row_bytes(s.w);
-    if part != bytes {
-        return 4;
-    }
-    if support != bytes {
-        return 5;
-    }
-    if rings != (s.n - 1) * (s.h * s.w) {
-        return 6;
-    }
-    0
-}
+ghost use Rattle.places.specs.Search.{padCases};
 
 // The refusals 7 and 8 by the padding of part and support, 0 for none.
 fn pads(s: Settings, part: &[u8], support: &[u8]) -> u8
@@ -49,7 +31,7 @@ pub fn refused(s: Settings, part: &[u8], support: &[u8], rings: &[u16]) -> u8
     if a != 0 {
         return a;
     }
-    let b = lengths(s, part.len(), support.len(), rings.len());
+    let b = limits::length_refusal(s, part.len(), support.len(), rings.len());
     if b != 0 {
         return b;
     }

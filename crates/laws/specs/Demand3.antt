@@ -16,9 +16,10 @@ use Rattle.rules.specs.Images.{Stack, within, sized, rowBytes, pixel, rowsOf, s
 use Rattle.rules.specs.Reach.{boundOf}
 use Rattle.rules.specs.Planning.{rings, plannedRings, plannedBytes}
 use Rattle.rules.specs.Judging.{verdict, verdictOf}
-use Rattle.rules.specs.Calls.{reachCases, settingCases, lengthCases, planCases, planRefusal, judgeCases, judgeAnswer}
+use Rattle.rules.specs.Calls.{reachCases, settingCases, lengthCases, planCases, planRefusal, planAnswer, planSupport, planRings, judgeCases, judgeAnswer}
 use Rattle.rules.specs.Demands.{Sound, Words}
 use Rattle.rules.specs.declared.Settings.{Settings}
+use Rattle.rules.specs.declared.Planned.the-variants.{Done, Refused as NotPlanned}
 use Rattle.rules.specs.declared.Judged.{Judged}
 use Rattle.rules.specs.declared.Judged.the-variants.{Accepted, Refused}
 use Rattle.laws.specs.Tests.{split, clash, and-l, and-r, not-out, some-out, getD-each, length-each}
@@ -197,6 +198,17 @@ plan-accepted s part a b e =
       },
       plannedBytes-accepted (s .w) (s .h) (s .n) (boundOf s) part,
     )
+
+-- the same of the call: what it leaves in the lent memory where it is done, whatever that held
+pub plan-left-accepted : (s : Settings) (part sup ring : List ℕ) → planAnswer s part (length sup) (length ring) ≡ Done →
+    judgeAnswer s part (planSupport s part sup ring) (planRings s part sup ring) ≡ Accepted
+unfolding planAnswer planSupport planRings
+plan-left-accepted s part sup ring e = go (planRefusal s part (length sup) (length ring)) refl e
+  where
+    go : (r : ℕ) → planRefusal s part (length sup) (length ring) ≡ r → answer r Done NotPlanned ≡ Done →
+        judgeAnswer s part (answer r (plannedBytes (s .w) (s .h) (s .n) (boundOf s) part) (λ k. sup)) (answer r (plannedRings (s .w) (s .h) (s .n) (boundOf s) part) (λ k. ring)) ≡ Accepted
+    go zero z h = plan-accepted s part (length sup) (length ring) z
+    go (suc r) z h = absurd (let y : _≡_ {A = ℕ} 0 1 = cc in omega arith)
 
 -- "and every accepted stack contains all of the planned support"
 pub plan-least : (s : Settings) (part sup l : List ℕ) → judgeAnswer s part sup l ≡ Accepted →

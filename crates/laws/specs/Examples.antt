@@ -176,3 +176,17 @@ pub report-texts :
     ∷ []
 unfolding bit some count each joinedUp within sized rowBytes bitAt pixel rowsOf stackBytes paddingSet byteOf bytesOf ringsIn ringAt settable reachOf square boundOf shadow excused supportUnder topOf planned empty rings plannedRings plannedBytes headEnd partEnd supportCount supportEnd ringCount jobEnd settingsIn storedIn partIn supportIn reachCases settingCases sectionCases readCases digits decimal spaced refusedLine jobLine filled excusedAbove layerLine planLines reportCases reportOf
 report-texts = refl
+
+-- three layers of two rows and nine columns, with empty support and no rings stored: pixels are counted over all rows, and planned afresh;
+-- `job 9 2 3 reach 2`, `2 12 0 0`, `1 4 5 3`, `0 2 5 2`
+pub report-rows :
+    reportOf (
+    (0 ∷ 0 ∷ 0 ∷ 5 ∷ 0 ∷ 9 ∷ 0 ∷ 2 ∷ 0 ∷ 3 ∷ 0 ∷ 100 ∷ 0 ∷ 200 ∷ 0 ∷ 0 ∷ 0 ∷ 6 ∷ 0xC0 ∷ 0x00 ∷ 0x00 ∷ 0x00 ∷ 0xE0 ∷ 0x00 ∷ 0x80 ∷ 0x00 ∷ 0xFF ∷ 0x80 ∷ 0xC1 ∷ 0x00 ∷ [])
+    ++ (0 ∷ 0 ∷ 0 ∷ 6 ∷ []) ++ each 0 12 (λ x. 0) ++ (0 ∷ 0 ∷ 0 ∷ 36 ∷ []) ++ each 0 72 (λ x. 0))
+    ≡ 106 ∷ 111 ∷ 98 ∷ 32 ∷ 57 ∷ 32 ∷ 50 ∷ 32 ∷ 51 ∷ 32 ∷ 114 ∷ 101 ∷ 97 ∷ 99 ∷ 104 ∷ 32 ∷ 50 ∷ 10
+    ∷ 50 ∷ 32 ∷ 49 ∷ 50 ∷ 32 ∷ 48 ∷ 32 ∷ 48 ∷ 10
+    ∷ 49 ∷ 32 ∷ 52 ∷ 32 ∷ 53 ∷ 32 ∷ 51 ∷ 10
+    ∷ 48 ∷ 32 ∷ 50 ∷ 32 ∷ 53 ∷ 32 ∷ 50 ∷ 10
+    ∷ []
+unfolding bit some count each joinedUp within sized rowBytes bitAt pixel rowsOf stackBytes paddingSet byteOf bytesOf ringsIn ringAt settable reachOf square boundOf apart distance² shadow near seeds reached touch source touching fits grow grown ringPlane rings excused supportUnder topOf planned empty plannedRings plannedBytes headEnd partEnd supportCount supportEnd ringCount jobEnd settingsIn storedIn partIn supportIn reachCases settingCases sectionCases readCases digits decimal spaced refusedLine jobLine filled excusedAbove layerLine planLines reportCases reportOf
+report-rows = refl

@@ -3,11 +3,14 @@ pub mod Bench
 pub mod Examples
 pub mod Refusals
 pub mod Demand1
+pub mod Judgements
+pub mod Lowest
 pub mod Outcomes
 pub mod Demand2
 pub mod Chapter
 pub mod RingsFit
 pub mod RoundTrips
+pub mod Offsets
 pub mod Demand3
 pub mod Soundness
 pub mod ReportLaws

@@ -1,11 +1,13 @@
 -- "Any two outcomes it allows are proved equal": for each public call what its contract allows, the answer and all lent memory afterwards,
 -- and that there is only one such outcome for an input.
 use mathlib.Core.Path.{_≡_, sym, _∙_}
+use mathlib.Core.Bool.{Bool, cond}
 use mathlib.Core.List.{List}
 use Prim.Native.Nat.{ℕ}
 use lib.ListN.{length}
-use Rattle.rules.specs.Jobs.{Job}
+use Rattle.rules.specs.Jobs.{Job, over}
 use Rattle.rules.specs.Calls.{reachAnswer, planAnswer, planSupport, planRings, judgeAnswer, readAnswer, partAnswer, supportAnswer, copyAnswer, copyRings, writeAnswer, writeTo}
+use Rattle.rules.specs.Report.{refusedLine, reportOf}
 use Rattle.rules.specs.declared.Micrometres.{Micrometres}
 use Rattle.rules.specs.declared.Settings.{Settings}
 use Rattle.rules.specs.declared.Reached.{Reached}
@@ -51,6 +53,13 @@ pub read-settled : (f : List ℕ) (r q : ReadJob) (a b c d : List ℕ) → Reads
 read-settled f r q a b c d x y =
     (both (x .answer) (y .answer), both (x .part-stretch) (y .part-stretch), both (x .support-stretch) (y .support-stretch))
 
+-- the two stretches by themselves: what they hold; where they stand is told by reading (part-stands and support-stands of Offsets)
+pub part-settled : (f a b : List ℕ) → a ≡ partAnswer f → b ≡ partAnswer f → a ≡ b
+part-settled f a b x y = both x y
+
+pub support-settled : (f a b : List ℕ) → a ≡ supportAnswer f → b ≡ supportAnswer f → a ≡ b
+support-settled f a b x y = both x y
+
 -- copy rings: the rings are lent
 pub record Copies (f ring : List ℕ) (r : CopiedRings) (ring′ : List ℕ) : Type 0 where
   pub answer : r ≡ copyAnswer f (length ring)
@@ -66,3 +75,14 @@ pub record Writes (j : Job) (out : List ℕ) (r : WrittenJob) (out′ : List ℕ
 
 pub write-settled : (j : Job) (out : List ℕ) (r q : WrittenJob) (a b : List ℕ) → Writes j out r a → Writes j out q b → (r ≡ q) × (a ≡ b)
 write-settled j out r q a b x y = (both (x .answer) (y .answer), both (x .destination) (y .destination))
+
+-- the report: a buffer for the text is lent; `more` says that the input goes on after f
+abbrev textOf : List ℕ → Bool → List ℕ
+textOf f more = cond more (refusedLine 17) (reportOf f)
+
+pub record Reports (f : List ℕ) (more : Bool) (out : List ℕ) (r : ℕ) (out′ : List ℕ) : Type 0 where
+  pub answer : r ≡ length (textOf f more)
+  pub destination : out′ ≡ over out 0 (textOf f more)
+
+pub report-settled : (f : List ℕ) (more : Bool) (out : List ℕ) (r q : ℕ) (a b : List ℕ) → Reports f more out r a → Reports f more out q b → (r ≡ q) × (a ≡ b)
+report-settled f more out r q a b x y = (both (x .answer) (y .answer), both (x .destination) (y .destination))

@@ -1,21 +1,24 @@
 -- The report: its example, and that a printed number is the number.
 use mathlib.Core.Path.{_≡_, refl, sym, ap, _∙_}
+use mathlib.Core.Logic.{_↔_}
 use mathlib.Core.Bool.{Bool, true, false, cond}
-use mathlib.Core.List.{List, [], _∷_, _++_}
+use mathlib.Core.List.{List, [], _∷_, _++_, append-nil}
 use Prim.Native.Nat.{ℕ, zero, suc, _+_, _-_, _*_, _/_, _%_, _^_, _≤_, _<_}
 use native.Mathlib.Omega.{arith}
 use lib.Dec.{ltb}
-use lib.ListN.{length, length-append}
+use lib.ListN.{length, length-append, take, drop-of-length-le, take-append-drop}
 use borrow.Author.Tests.{ltb-true, ltb-false, lt-ltb, le-ltb}
-use Rattle.rules.specs.Tools.{_when_, refusal, bit, some, count, each, joinedUp}
+use Rattle.rules.specs.Tools.{_when_, refusal, answer, bit, some, count, each, joinedUp}
 use Rattle.rules.specs.Images.{within, sized, rowBytes, bitAt, pixel, rowsOf, stackBytes, paddingSet, byteOf, bytesOf, ringsIn, ringAt}
 use Rattle.rules.specs.Reach.{settable, reachOf, square, boundOf, apart, distance²}
 use Rattle.rules.specs.Planning.{shadow, near, seeds, reached, touch, source, touching, fits, grow, grown, ringPlane, rings, excused, supportUnder, topOf, planned, empty, plannedRings, plannedBytes}
 use Rattle.rules.specs.Jobs.{headEnd, partEnd, supportCount, supportEnd, ringCount, jobEnd, settingsIn, storedIn, partIn, supportIn}
 use Rattle.rules.specs.Calls.{reachCases, settingCases, sectionCases, readCases}
 use Rattle.rules.specs.Report.{digits, decimal, spaced, newline, refusedLine, jobLine, filled, excusedAbove, layerLine, planLines, reportCases, reportOf}
+use Rattle.rules.specs.Demands.{Given}
+use Rattle.rules.specs.declared.Settings.{Settings}
 use Rattle.laws.specs.Tests.{split}
-use Rattle.laws.specs.Refusals.{numbered, refusal-append}
+use Rattle.laws.specs.Refusals.{numbered, refusal-append, given-exactly}
 
 -- "Input (28 bytes, hexadecimal) .. Whole output": `job 8 1 2 reach 2`, `1 8 0 0`, `0 3 3 2`
 pub report-example :
@@ -116,3 +119,41 @@ report-refused f k h e =
     let a : refusal (readCases f ++ (17 when ltb 32768 (ringsIn (settingsIn f))) ∷ []) ≡ suc k =
     refusal-append (readCases f) ((17 when ltb 32768 (ringsIn (settingsIn f))) ∷ []) (read-numbered f) ∙ rw e in
     rw (le-ltb 65536 (length f) h, a)
+
+-- a line of a refusal tells its number, and no plan begins like one
+line-number : (j k : ℕ) → refusedLine j ≡ refusedLine k → j ≡ k
+unfolding refusedLine spaced valueFrom
+line-number j k e =
+    let tail : decimal j ++ newline ≡ decimal k ++ newline = cc in
+    let value : (x : ℕ) → valueFrom 0 (decimal x ++ newline) ≡ x * 10 = λ x. value-append 0 (decimal x) newline ∙ rw (decimal-value x) (omega arith) in
+    let same : j * 10 ≡ k * 10 = sym (value j) ∙ ap (valueFrom 0) tail ∙ value k in
+    omega arith
+
+first-byte : (s : Settings) (part : List ℕ) (k : ℕ) → planLines s part ≡ refusedLine k → _≡_ {A = ℕ} 106 114
+unfolding planLines jobLine refusedLine
+first-byte s part k e = cc
+
+-- "Other refusals print `refused` and the number": a number is printed exactly when the program's table gives it
+pub report-exactly : (f : List ℕ) (k : ℕ) → (reportOf f ≡ refusedLine (suc k)) ↔ Given (suc k) (reportCases f)
+unfolding reportOf
+report-exactly f k = (
+  (λ e. given-exactly (reportCases f) k .0 (go (refusal (reportCases f)) e)),
+  (λ g. ap (λ (x : ℕ). answer x (planLines (settingsIn f) (partIn f)) refusedLine) (given-exactly (reportCases f) k .1 g)),
+)
+  where
+    no-plan : (s : Settings) (part : List ℕ) → planLines s part ≡ refusedLine (suc k) → ⊥
+    no-plan s part e = let z : _≡_ {A = ℕ} 106 114 = first-byte s part (suc k) e in omega arith
+
+    go : (x : ℕ) → answer x (planLines (settingsIn f) (partIn f)) refusedLine ≡ refusedLine (suc k) → x ≡ suc k
+    go zero e = absurd (no-plan (settingsIn f) (partIn f) e)
+    go (suc x) e = line-number (suc x) (suc k) e
+
+pub take-all : (n : ℕ) (l : List ℕ) → length l ≤ n → take n l ≡ l
+take-all n l h = sym (append-nil (take n l)) ∙ ap (λ (x : List ℕ). take n l ++ x) (sym (drop-of-length-le l h)) ∙ take-append-drop n l
+
+-- the program reads 65,536 bytes and asks whether there are more: what it then prints is the report of the whole input
+pub report-whole : (f : List ℕ) → cond (ltb 65536 (length f)) (refusedLine 17) (reportOf (take 65536 f)) ≡ reportOf f
+report-whole f =
+    split (ltb 65536 (length f))
+    (λ t. rw t (sym (report-too-long f (ltb-true 65536 (length f) t))))
+    (λ t. rw t (ap reportOf (take-all 65536 f (ltb-false 65536 (length f) t))))

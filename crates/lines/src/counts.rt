@@ -1,6 +1,6 @@
 // How many pixels of a layer are filled, and how many of a pair are excused.
-use judge::bits::bit;
 use limits::row_bytes;
+use places::bits::bit;
 ghost use mathlib.Core.Path.{_≡_};
 ghost use Prim.Native.Nat.{ℕ, _+_, _-_, _*_, _<_, _≤_};
 ghost use lib.ListN.{length};

@@ -62,25 +62,29 @@ fn job_text(
     planned_lines(s, part, &mut support[..bytes], &mut rings[..count], out)
 }
 
+// The same, with support and rings of its own.
+fn read_text(s: Settings, part: &[u8], out: &mut [u8]) -> usize
+    requires { ⌜ Planable s (now part) × (length (now out) ≡ 16384) ⌝ }
+    ensures { λ r. ⌜ Printed (cond (ltb 32768 (ringsIn s)) (refusedLine 17) (planLines s (now (part .entry)))) r (now (out .exit)) (now (out .entry)) ⌝ }
+{
+    let mut support = [0u8; 65536];
+    let mut rings = [0u16; 32768];
+    job_text(s, part, &mut support, &mut rings, out)
+}
+
 // The whole output for an input of at most 65,536 bytes; `more` says that there was more of it.
-pub fn report(
-    file: &[u8],
-    more: bool,
-    support: &mut [u8],
-    rings: &mut [u16],
-    out: &mut [u8],
-) -> usize
-    requires { ⌜ (length (now file) ≤ 65536) × Room (now support) (now rings) (now out) ⌝ }
+pub fn report(file: &[u8], more: bool, out: &mut [u8]) -> usize
+    requires { ⌜ (length (now file) ≤ 65536) × (length (now out) ≡ 16384) ⌝ }
     ensures { λ r. ⌜ Printed (cond more (refusedLine 17) (reportOf (now (file .entry)))) r (now (out .exit)) (now (out .entry)) ⌝ }
 {
     if more {
-        return refused_line(out, 17);
+        return refused_line(out, 17); // the first of the two places of 17
     }
     match job::read(file) {
         ReadJob::Refused(k) => refused_line(out, wide(k)),
         ReadJob::Job(l) => {
             let s = l.settings;
-            job_text(s, job::part(file), support, rings, out)
+            read_text(s, job::part(file), out)
         }
     }
 }

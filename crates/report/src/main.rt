@@ -7,9 +7,7 @@ fn main() {
     let n = io::read_full(STDIN_FILENO, &mut file);
     let mut rest = [0u8; 1];
     let more = io::read_full(STDIN_FILENO, &mut rest) != 0;
-    let mut support = [0u8; 65536];
-    let mut rings = [0u16; 32768];
     let mut out = [0u8; 16384];
-    let end = lines::report(&file[..n], more, &mut support, &mut rings, &mut out);
+    let end = lines::report(&file[..n], more, &mut out);
     io::write_all(STDOUT_FILENO, &out[..end]);
 }

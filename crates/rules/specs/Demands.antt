@@ -15,6 +15,11 @@ pub data Given (k : ℕ) : List Case → Type 0 where
   here : {b : Bool} {cs : List Case} → b ≡ true → Given k ((k when b) ∷ cs)
   later : {j : ℕ} {b : Bool} {cs : List Case} → b ≡ false → Given k cs → Given k ((j when b) ∷ cs)
 
+-- the number k is that of some case of the table whose condition holds, be it the first or not
+pub data Applies (k : ℕ) : List Case → Type 0 where
+  this : {b : Bool} {cs : List Case} → b ≡ true → Applies k ((k when b) ∷ cs)
+  further : {c : Case} {cs : List Case} → Applies k cs → Applies k (c ∷ cs)
+
 -- no condition of the table holds
 pub data NoneGiven : List Case → Type 0 where
   end : NoneGiven []

@@ -7,7 +7,7 @@ use Rattle.laws.specs.Tests.{not-out}
 use Rattle.image.specs.Planes.{size-max, zero-ready}
 use Rattle.image.specs.Scratch.{seen}
 use Rattle.grow.specs.EndLaws.{closed, marks-in, none-reached, relaxes}
-use Rattle.grow.specs.Rings.{nearIn}
+use Rattle.grow.specs.Fronts.{nearIn}
 use Rattle.grow.proofs.onward.Statement.{statement}
 use Rattle.grow.proofs.onward.Tie as tie
 

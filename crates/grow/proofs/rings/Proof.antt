@@ -6,7 +6,7 @@ use Rattle.image.specs.Planes.{zero-ready, scratch-seen}
 use Rattle.image.specs.Scratch.{seen}
 use Rattle.grow.specs.EndLaws.{near-free, near-twice}
 use Rattle.grow.specs.FreeLaws.{free-apart}
-use Rattle.grow.specs.Rings.{nearIn}
+use Rattle.grow.specs.Fronts.{nearIn}
 use Rattle.grow.proofs.rings.Statement.{statement}
 use Rattle.grow.proofs.rings.Tie as tie
 

@@ -1,6 +1,6 @@
 use borrow.Author.Needs.{needs}
 use mathlib.Core.Path.{_∙_, sym}
-use Rattle.judge.proofs.Verdicts.{judged-by, judged-refused, verdict-ready}
+use Rattle.judge.specs.Verdicts.{judged-by, judged-refused, verdict-ready}
 use Rattle.judge.proofs.judge.Statement.{statement}
 use Rattle.judge.proofs.judge.Tie as tie
 use Rattle.judge.proofs.judge.Reads as reads

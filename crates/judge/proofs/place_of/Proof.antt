@@ -2,8 +2,8 @@ use native.Mathlib.Omega.{arith}
 use borrow.Author.Needs.{needs}
 use Prim.Native.Nat.{_*_}
 use mathlib.Core.Path.{refl}
-use Rattle.judge.proofs.Rows.{area-fit}
-use Rattle.judge.proofs.Verdicts.{area-pos, layer-most}
+use Rattle.places.specs.Rows.{area-fit}
+use Rattle.judge.specs.Verdicts.{area-pos, layer-most}
 use Rattle.rules.specs.Judging.{placeOf}
 use Rattle.judge.proofs.place_of.Statement.{statement}
 use Rattle.judge.proofs.place_of.Tie as tie

@@ -1,16 +1,16 @@
 use native.Mathlib.Omega.{arith}
 use borrow.Author.Needs.{needs}
-use Rattle.judge.proofs.Verdicts.{pixels-most, plane-sized, ring-count, rings-is, stack-length, told-10, told-11, told-9, told-accepted}
+use Rattle.judge.specs.Verdicts.{pixels-most, plane-sized, ring-count, rings-is, stack-length, told-10, told-11, told-9, told-accepted}
 use Rattle.laws.specs.Limits.{area-most, rings-most}
 use Rattle.rules.specs.Reach.{boundOf}
 use Rattle.judge.proofs.verdict.Statement.{statement}
 use Rattle.judge.proofs.verdict.Tie as tie
 use Rattle.judge.proofs.verdict.Reads as reads
 use Rattle.judge.proofs.verdict.Lts as lts
-use Rattle.judge.proofs.rings.bad_ring.Reads as bad-ring-reads
-use Rattle.judge.proofs.overlaps.overlap_at.Reads as overlap-at-reads
+use Rattle.judge.proofs.bad_ring.Reads as bad-ring-reads
+use Rattle.places.proofs.overlaps.overlap_at.Reads as overlap-at-reads
 use Rattle.judge.proofs.place_of.Reads as place-of-reads
-use Rattle.judge.proofs.hangs.unheld_at.Reads as unheld-at-reads
+use Rattle.places.proofs.hangs.unheld_at.Reads as unheld-at-reads
 
 mul-area : tie.Need-mul-area
 mul-area c = omega (arith, area-most (c .before .before .before .args .s .w) (c .before .before .before .args .s .h) (c .before .before .before .pre .0 .w-high) (c .before .before .before .pre .0 .h-high))

@@ -33,12 +33,6 @@ slice-aggregate-report c = search needs
 slice-aggregate-report-2 : tie.Need-slice-aggregate-report-2
 slice-aggregate-report-2 c = search needs
 
-slice-aggregate-report-3 : tie.Need-slice-aggregate-report-3
-slice-aggregate-report-3 c = search needs
-
-slice-aggregate-report-4 : tie.Need-slice-aggregate-report-4
-slice-aggregate-report-4 c = search needs
-
 report-requires : tie.Need-report-requires
 report-requires c κs = search needs
 
@@ -46,7 +40,7 @@ array-share-prefix-out : tie.Need-array-share-prefix-out
 array-share-prefix-out c = search needs
 
 slice-aggregate-write-all : tie.Need-slice-aggregate-write-all
-slice-aggregate-write-all c = sym (length-take-le (c .before .before .before .before .report .result) (c .before .before .before .before .report .last .1 .1 .1 .1 .0) (omega (arith, c .before .before .before .before .report .ensures .room, c .before .before .before .before .report .kept .1 .1 .1 .1 .0, length-replicate {A = ℕ} 16384 0)))
+slice-aggregate-write-all c = sym (length-take-le (c .before .before .report .result) (c .before .before .report .last .1 .1 .0) (omega (arith, c .before .before .report .ensures .room, c .before .before .report .kept .1 .1 .0, length-replicate {A = ℕ} 16384 0)))
 
 write-all-requires : tie.Need-write-all-requires
 write-all-requires c κs = search needs
@@ -65,8 +59,6 @@ main-spec =
     array-share-prefix-file
     slice-aggregate-report
     slice-aggregate-report-2
-    slice-aggregate-report-3
-    slice-aggregate-report-4
     report-requires
     array-share-prefix-out
     slice-aggregate-write-all

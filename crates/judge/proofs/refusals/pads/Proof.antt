@@ -1,7 +1,7 @@
 use native.Mathlib.Omega.{arith}
 use mathlib.Core.Path.{_∙_, refl, sym}
-use Rattle.judge.proofs.Verdicts.{bytes-is, rows-is}
-use Rattle.judge.specs.Search.{padCases}
+use Rattle.judge.specs.Verdicts.{bytes-is, rows-is}
+use Rattle.places.specs.Search.{padCases}
 use Rattle.laws.specs.Limits.{rows-most}
 use Rattle.rules.specs.Images.{rowBytes, rowsOf}
 use Rattle.judge.proofs.refusals.pads.Statement.{statement}

@@ -1,12 +1,12 @@
 use borrow.Author.Needs.{needs}
 use mathlib.Core.Path.{_∙_, sym}
-use Rattle.judge.proofs.Verdicts.{by-lengths, by-pads, by-settings, lengths-out}
+use Rattle.judge.specs.Verdicts.{by-lengths, by-pads, by-settings, lengths-out}
 use Rattle.laws.specs.Limits.{ranged}
 use Rattle.judge.proofs.refusals.refused.Statement.{statement}
 use Rattle.judge.proofs.refusals.refused.Tie as tie
 use Rattle.judge.proofs.refusals.refused.Reads as reads
 use Rattle.judge.proofs.refusals.refused.Lts as lts
-use Rattle.judge.proofs.refusals.lengths.Reads as lengths-reads
+use Rattle.limits.proofs.length_refusal.Reads as length-refusal-reads
 use Rattle.judge.proofs.refusals.pads.Reads as pads-reads
 use Rattle.limits.proofs.settings_refusal.Reads as settings-refusal-reads
 
@@ -16,19 +16,19 @@ settings-refusal-requires c κs = search needs
 returns : tie.Need-returns
 returns c = by-settings (c .before .before .before .before .before .args .s) (c .before .before .before .before .before .args .part .now) (c .before .before .before .before .before .args .support .now) _ _ (c .before .settings-refusal .ensures) (c .if1 .taken)
 
-lengths-requires : tie.Need-lengths-requires
-lengths-requires c κs = ranged (c .before .before .before .before .before .args .s) (sym (c .before .settings-refusal .ensures) ∙ c .if1 .left)
+length-refusal-requires : tie.Need-length-refusal-requires
+length-refusal-requires c κs = ranged (c .before .before .before .before .before .args .s) (sym (c .before .settings-refusal .ensures) ∙ c .if1 .left)
 
 returns-2 : tie.Need-returns-2
-returns-2 c = by-lengths (c .before .before .before .before .before .before .before .args .s) (c .before .before .before .before .before .before .before .args .part .now) (c .before .before .before .before .before .before .before .args .support .now) _ _ (c .before .before .before .settings-refusal .ensures) (c .before .before .if1 .left) _ (c .before .lengths .ensures) (c .if2 .taken)
+returns-2 c = by-lengths (c .before .before .before .before .before .before .before .args .s) (c .before .before .before .before .before .before .before .args .part .now) (c .before .before .before .before .before .before .before .args .support .now) _ _ (c .before .before .before .settings-refusal .ensures) (c .before .before .if1 .left) _ (c .before .length-refusal .ensures) (c .if2 .taken)
 
 pads-requires : tie.Need-pads-requires
-pads-requires c κs = (ranged (c .before .before .before .before .before .before .before .args .s) (sym (c .before .before .before .settings-refusal .ensures) ∙ c .before .before .if1 .left), lengths-out (c .before .before .before .before .before .before .before .args .s) _ _ _ (sym (c .before .lengths .ensures) ∙ c .if2 .left))
+pads-requires c κs = (ranged (c .before .before .before .before .before .before .before .args .s) (sym (c .before .before .before .settings-refusal .ensures) ∙ c .before .before .if1 .left), lengths-out (c .before .before .before .before .before .before .before .args .s) _ _ _ (sym (c .before .length-refusal .ensures) ∙ c .if2 .left))
 
 returns-3 : tie.Need-returns-3
-returns-3 c = by-pads (c .before .before .before .before .before .before .before .before .args .s) (c .before .before .before .before .before .before .before .before .args .part .now) (c .before .before .before .before .before .before .before .before .args .support .now) _ _ (c .before .before .before .before .settings-refusal .ensures) (c .before .before .before .if1 .left) _ (c .before .before .lengths .ensures) (c .before .if2 .left) _ (c .pads .ensures)
+returns-3 c = by-pads (c .before .before .before .before .before .before .before .before .args .s) (c .before .before .before .before .before .before .before .before .args .part .now) (c .before .before .before .before .before .before .before .before .args .support .now) _ _ (c .before .before .before .before .settings-refusal .ensures) (c .before .before .before .if1 .left) _ (c .before .before .length-refusal .ensures) (c .before .if2 .left) _ (c .pads .ensures)
 
 pub refused-spec : {M : Type 1} → statement M
 refused-spec =
     tie.close
-    (tie.spec settings-refusal-requires returns lengths-requires returns-2 pads-requires returns-3)
+    (tie.spec settings-refusal-requires returns length-refusal-requires returns-2 pads-requires returns-3)

@@ -10,7 +10,7 @@ use Rattle.lines.proofs.counts.pixel.Statement.{statement}
 use Rattle.lines.proofs.counts.pixel.Tie as tie
 use Rattle.lines.proofs.counts.pixel.Reads as reads
 use Rattle.lines.proofs.counts.pixel.Lts as lts
-use Rattle.judge.proofs.bits.bit.Reads as bit-reads
+use Rattle.places.proofs.bits.bit.Reads as bit-reads
 use Rattle.limits.proofs.row_bytes.Reads as row-bytes-reads
 
 row-bytes-requires : tie.Need-row-bytes-requires

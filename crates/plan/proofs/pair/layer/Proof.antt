@@ -28,20 +28,20 @@ array-borrow-prefix-rest c = plane-size (c .before .before .before .before .befo
 
 -- src/pair.rt:112:20
 slice-aggregate-rings : tie.Need-slice-aggregate-rings
-slice-aggregate-rings c = 
+slice-aggregate-rings c =
     let Z = plane-size (c .before .before .before .before .before .before .args .w) (c .before .before .before .before .before .before .args .h) (c .before .before .before .before .before .before .args .st) (c .before .before .before .before .before .before .pre .0 .0) in
     Z .0 ∙ sym (fresh-pack (c .before .before .before .before .before .before .args .w) (c .before .before .before .before .before .before .args .h) (c .before .before .before .before .before .before .pre .0 .0 .w-min) (c .before .before .before .before .before .before .args .h * (c .before .before .before .before .before .before .args .st - 1)) (Z .0) (Z .1) .clean .long)
 
 -- src/pair.rt:112:5
 rings-requires : tie.Need-rings-requires
-rings-requires c κs = 
+rings-requires c κs =
     let P = c .before .before .before .before .before .before .before .pre in
     let Z = plane-size (c .before .before .before .before .before .before .before .args .w) (c .before .before .before .before .before .before .before .args .h) (c .before .before .before .before .before .before .before .args .st) (P .0 .0) in
     (P .0, (P .1 .0, P .1 .1, fresh-pack (c .before .before .before .before .before .before .before .args .w) (c .before .before .before .before .before .before .before .args .h) (P .0 .0 .w-min) (c .before .before .before .before .before .before .before .args .h * (c .before .before .before .before .before .before .before .args .st - 1)) (Z .0) (Z .1), P .1 .4))
 
 -- src/pair.rt:113:13
 array-share-prefix-rest : tie.Need-array-share-prefix-rest
-array-share-prefix-rest c = 
+array-share-prefix-rest c =
     let A = c .before .before .before .before .before .before .before .before .before .before .before .args in
     let P = c .before .before .before .before .before .before .before .before .before .before .before .pre in
     let Z = plane-size (A .w) (A .h) (A .st) (P .0 .0) in
@@ -52,7 +52,7 @@ array-share-prefix-rest c =
 
 -- src/pair.rt:113:13
 slice-aggregate-support : tie.Need-slice-aggregate-support
-slice-aggregate-support c = 
+slice-aggregate-support c =
     let A = c .before .before .before .before .before .before .before .before .before .before .before .before .args in
     let P = c .before .before .before .before .before .before .before .before .before .before .before .before .pre in
     let Z = plane-size (A .w) (A .h) (A .st) (P .0 .0) in
@@ -63,7 +63,7 @@ slice-aggregate-support c =
 
 -- src/pair.rt:113:5
 support-requires : tie.Need-support-requires
-support-requires c κs = 
+support-requires c κs =
     let A = c .before .before .before .before .before .before .before .before .before .before .before .before .before .args in
     let P = c .before .before .before .before .before .before .before .before .before .before .before .before .before .pre in
     let Z = plane-size (A .w) (A .h) (A .st) (P .0 .0) in
@@ -82,7 +82,7 @@ same-length-2 c = search needs
 
 -- src/pair.rt:94:1
 returns : tie.Need-returns
-returns c = 
+returns c =
     let A = c .before .before .before .before .before .before .before .before .before .before .before .before .before .before .before .before .args in
     let P = c .before .before .before .before .before .before .before .before .before .before .before .before .before .before .before .before .pre in
     let Z = plane-size (A .w) (A .h) (A .st) (P .0 .0) in

@@ -13,7 +13,7 @@ use Rattle.plan.proofs.pair.support.Reads as reads
 use Rattle.plan.proofs.pair.support.Lts as lts
 
 abbrev Inv-loop : tie.InvT-loop
-Inv-loop rest low above out₀ i₀ out i = 
+Inv-loop rest low above out₀ i₀ out i =
     (i ≤ length out₀) × Filling 0 i (λ j. (bitOf rest j || bitOf above j) && not (bitOf low j)) out out₀
 
 abbrev μ-loop : tie.MeasureT-loop
@@ -49,7 +49,7 @@ loop-less c = omega (arith, c .before .before .before .loop-test .taken, c .befo
 
 -- src/pair.rt:32:5
 loop-again : tie.Need-loop-again Inv-loop μ-loop
-loop-again c = 
+loop-again c =
     let A = c .before .before .before .before .before .args in
     let L = c .before .before .before .before .loop in (
       omega (arith, c .before .before .before .loop-test .taken, L .inv .1 .long),
@@ -63,7 +63,7 @@ same-length c = c .before .loop .inv .1 .long
 
 -- src/pair.rt:27:1
 returns : tie.Need-returns Inv-loop μ-loop
-returns c = 
+returns c =
     let L = c .before .loop in
     let e : L .i ≡ length (c .before .before .args .out .now) = omega (arith, c .loop-test .left, L .inv .0, L .inv .1 .long) in
     let W = filling-all _ _ _ _ _ (rw e at (L .inv .1)) in

@@ -32,21 +32,21 @@ mul-area c = omega (arith, area-max (c .before .before .before .before .args .w)
 
 -- src/stack.rt:44:13
 mul-a : tie.Need-mul-a
-mul-a c = 
+mul-a c =
     let A = c .before .before .before .before .args in
     let P = c .before .before .before .before .pre in
     omega (arith, layer-room (A .w) (A .h) (A .n) (A .h * (A .st - 1)) (A .i) (length (A .part .now)) (plane-size (A .w) (A .h) (A .st) (P .0 .0) .0) (P .1 .0 .part-long) (omega (arith, P .0 .2)))
 
 -- src/stack.rt:45:13
 add-m : tie.Need-add-m
-add-m c = 
+add-m c =
     let A = c .before .before .before .before .args in
     let P = c .before .before .before .before .pre in
     omega (arith, layer-room (A .w) (A .h) (A .n) (A .h * (A .st - 1)) (A .i) (length (A .part .now)) (plane-size (A .w) (A .h) (A .st) (P .0 .0) .0) (P .1 .0 .part-long) (omega (arith, P .0 .2)))
 
 -- src/stack.rt:46:13
 mul-x : tie.Need-mul-x
-mul-x c = 
+mul-x c =
     let A = c .before .before .before .before .args in
     let P = c .before .before .before .before .pre in
     omega (arith, ring-room (A .w) (A .h) (A .n) (A .h * A .w) (A .i) (length (A .rings .now)) refl (P .1 .0 .rings-long) (P .0 .2), c .before .before .before .before .good .1 .1 .0)
@@ -61,14 +61,14 @@ part-layer-start c = search needs
 
 -- src/stack.rt:48:9
 part-layer-end : tie.Need-part-layer-end
-part-layer-end c = 
+part-layer-end c =
     let A = c .before .before .before .before .args in
     let P = c .before .before .before .before .pre in
     layer-room (A .w) (A .h) (A .n) (A .h * (A .st - 1)) (A .i) (length (A .part .now)) (plane-size (A .w) (A .h) (A .st) (P .0 .0) .0) (P .1 .0 .part-long) (omega (arith, P .0 .2))
 
 -- src/stack.rt:49:18
 add-layer : tie.Need-add-layer
-add-layer c = 
+add-layer c =
     let A = c .before .before .before .before .before .args in
     let P = c .before .before .before .before .before .pre in
     omega (arith, up-room (A .w) (A .h) (A .n) (A .h * (A .st - 1)) (A .i) (length (A .part .now)) (plane-size (A .w) (A .h) (A .st) (P .0 .0) .0) (P .1 .0 .part-long) (P .0 .2))
@@ -83,7 +83,7 @@ part-layer-start-2 c = search needs
 
 -- src/stack.rt:49:9
 part-layer-end-2 : tie.Need-part-layer-end-2
-part-layer-end-2 c = 
+part-layer-end-2 c =
     let A = c .before .before .before .before .before .args in
     let P = c .before .before .before .before .before .pre in
     up-room (A .w) (A .h) (A .n) (A .h * (A .st - 1)) (A .i) (length (A .part .now)) (plane-size (A .w) (A .h) (A .st) (P .0 .0) .0) (P .1 .0 .part-long) (P .0 .2)
@@ -98,21 +98,21 @@ part-layer-start-3 c = search needs
 
 -- src/stack.rt:51:9
 part-layer-end-3 : tie.Need-part-layer-end-3
-part-layer-end-3 c = 
+part-layer-end-3 c =
     let A = c .before .before .before .before .before .before .before .args in
     let P = c .before .before .before .before .before .before .before .pre in
     layer-room (A .w) (A .h) (A .n) (A .h * (A .st - 1)) (A .i) (length (A .support .now)) (plane-size (A .w) (A .h) (A .st) (P .0 .0) .0) (P .1 .0 .support-long) (omega (arith, P .0 .2))
 
 -- src/stack.rt:52:23
 add-layer-2 : tie.Need-add-layer-2
-add-layer-2 c = 
+add-layer-2 c =
     let A = c .before .before .before .before .before .before .before .before .args in
     let P = c .before .before .before .before .before .before .before .before .pre in
     omega (arith, ring-room (A .w) (A .h) (A .n) (A .h * A .w) (A .i) (length (A .rings .now)) refl (P .1 .0 .rings-long) (P .0 .2), c .before .before .before .before .before .before .before .before .good .1 .1 .0)
 
 -- src/stack.rt:52:9
 mul-layer : tie.Need-mul-layer
-mul-layer c = 
+mul-layer c =
     let A = c .before .before .before .before .before .before .before .before .args in
     let P = c .before .before .before .before .before .before .before .before .pre in
     omega (arith, ring-room (A .w) (A .h) (A .n) (A .h * A .w) (A .i) (length (A .rings .now)) refl (P .1 .0 .rings-long) (P .0 .2), c .before .before .before .before .before .before .before .before .good .1 .1 .0)
@@ -127,14 +127,14 @@ part-layer-start-4 c = search needs
 
 -- src/stack.rt:52:9
 part-layer-end-4 : tie.Need-part-layer-end-4
-part-layer-end-4 c = 
+part-layer-end-4 c =
     let A = c .before .before .before .before .before .before .before .before .args in
     let P = c .before .before .before .before .before .before .before .before .pre in
     ring-room (A .w) (A .h) (A .n) (A .h * A .w) (A .i) (length (A .rings .now)) refl (P .1 .0 .rings-long) (P .0 .2)
 
 -- src/stack.rt:47:5
 layer-requires : tie.Need-layer-requires
-layer-requires c κs = 
+layer-requires c κs =
     let A = c .before .before .before .before .before .before .before .before .before .args in
     let P = c .before .before .before .before .before .before .before .before .before .pre in
     let B = P .1 .0 in
@@ -160,7 +160,7 @@ part-put-start c = search needs
 
 -- src/stack.rt:58:9
 part-put-end : tie.Need-part-put-end
-part-put-end c = 
+part-put-end c =
     let A = c .before .before .before .before .before .before .before .before .before .before .before .before .before .before .before .args in
     let P = c .before .before .before .before .before .before .before .before .before .before .before .before .before .before .before .pre in
     let B = P .1 .0 in
@@ -174,7 +174,7 @@ part-put-end c =
 
 -- src/stack.rt:58:5
 put-requires : tie.Need-put-requires
-put-requires c κs = 
+put-requires c κs =
     let A = c .before .before .before .before .before .before .before .before .before .before .before .before .before .before .before .before .before .args in
     let P = c .before .before .before .before .before .before .before .before .before .before .before .before .before .before .before .before .before .pre in
     let B = P .1 .0 in
@@ -200,7 +200,7 @@ same-length-3 c = c .before .before .put .kept .1 .0
 
 -- src/stack.rt:25:1
 returns : tie.Need-returns
-returns c = 
+returns c =
     let A = c .before .before .before .before .before .before .before .before .before .before .before .before .before .before .before .before .before .before .before .before .args in
     let P = c .before .before .before .before .before .before .before .before .before .before .before .before .before .before .before .before .before .before .before .before .pre in
     let B = P .1 .0 in

@@ -1,0 +1,5 @@
+-- Laws of bad rings.
+pub mod Eight
+pub mod Scratch
+pub mod Trust
+pub mod Holding

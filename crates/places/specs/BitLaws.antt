@@ -1,0 +1,37 @@
+-- What operations on bytes do to the eight pixels of each.
+use mathlib.Core.Path.{_≡_, refl, ap, ap₂, _∙_}
+use mathlib.Core.Bool.{Bool, true, false, not, _&&_, _||_}
+use mathlib.Core.List.{List}
+use Prim.Native.Nat.{ℕ, _+_, _-_, _/_, _%_, _<_}
+use native.Mathlib.Omega.{arith}
+use lib.Bits.{bitAnd, bitOr, or-lt}
+use lib.ListN.{getD}
+use Rattle.rules.specs.Images.{bitAt}
+use Rattle.image.specs.Bits.{bit-and, bit-or, bit-not, zero-bit}
+use Rattle.places.specs.Search.{bitIn}
+
+-- set in the upper two, and in neither of the lower two
+pub bit-hanging : (u a l b : ℕ) → l < 256 → b < 256 → (k : ℕ) → k < 8
+    → bitAt (bitAnd (bitOr u a) (255 - bitOr l b)) k ≡ (bitAt u k || bitAt a k) && not (bitAt l k || bitAt b k)
+bit-hanging u a l b hl hb k lk =
+    bit-and (bitOr u a) (255 - bitOr l b) k
+    ∙ ap₂ (λ (x y : Bool). x && y) (bit-or u a k) (bit-not (bitOr l b) k (or-lt 8 l b hl hb) lk ∙ ap not (bit-or l b k))
+
+pub no-bit : (m k : ℕ) → m ≡ 0 → bitAt m k ≡ false
+no-bit m k e = ap (λ (n : ℕ). bitAt n k) e ∙ zero-bit k
+
+-- a byte of a row, and its pixels
+pub byte-in : (s : List ℕ) (at c k : ℕ) → c % 8 ≡ 0 → k < 8 → bitIn s at (c + k) ≡ bitAt (getD s (at + c / 8) 0) k
+unfolding bitIn
+byte-in s at c k e l =
+    let d : (c + k) / 8 ≡ c / 8 = omega arith in
+    let m : (c + k) % 8 ≡ k = omega arith in
+    rw (d, m)
+
+pub and-true : (a : Bool) → (a && true) ≡ a
+and-true true = refl
+and-true false = refl
+
+pub and-false : (a : Bool) → (a && false) ≡ false
+and-false true = refl
+and-false false = refl

@@ -1,0 +1,76 @@
+-- What a search answers, and what it looks at: the rows and planes of a stack as bytes.
+use mathlib.Core.Path.{_≡_}
+use mathlib.Core.Bool.{Bool, true, false, not, _&&_, _||_}
+use mathlib.Core.List.{List, [], _∷_}
+use Prim.Native.Nat.{ℕ, _+_, _-_, _*_, _/_, _%_, _≤_, _<_}
+use lib.Dec.{ltb, eqb}
+use lib.ListN.{getD}
+use Rattle.rules.specs.Tools.{Case, _when_}
+use Rattle.rules.specs.Images.{Plane, Stack, bitAt, rowsOf, paddingSet}
+use Rattle.rules.specs.declared.Settings.{Settings}
+use Rattle.image.specs.Rows.{packed}
+use Rattle.rules.specs.Planning.{shadow, near, seeds, reached, touch, source, touching, fits}
+
+-- r is the first of a, a + 1, .., n - 1 that passes; n where none does
+pub record Least (a n : ℕ) (f : ℕ → Bool) (r : ℕ) : Type 0 where
+  pub low : a ≤ r
+  pub bound : r ≤ n
+  pub before : (y : ℕ) → a ≤ y → y < r → f y ≡ false
+  pub at : r < n → f r ≡ true
+
+-- the test of a stack, at the pixels of all layers counted through
+unfoldable pub flat : ℕ → ℕ → Stack → ℕ → Bool
+flat w h f x = f (x / (h * w)) (x % (h * w))
+
+-- the pixel at column c of the row whose bytes start at `at`
+unfoldable pub bitIn : List ℕ → ℕ → ℕ → Bool
+bitIn s at c = bitAt (getD s (at + c / 8) 0) (c % 8)
+
+-- overlap, bad rings and unheld pixels of one plane, or of one pair of them: what `overlap`, `badRing` and `unheld` say of it
+unfoldable pub overlapHere : Plane → Plane → Plane
+overlapHere part sup p = sup p && part p
+
+unfoldable pub badHere : ℕ → ℕ → ℕ → Plane → Plane → (ℕ → ℕ) → Plane
+badHere w h q low up ring p = ltb 0 (ring p) && not (fits (h * w) (touch w) (reached w h q low up) (seeds low up) ring (ring p - 1) p)
+
+-- the same where the pixels of `close` are taken for near
+unfoldable pub badBy : ℕ → ℕ → Plane → Plane → Plane → (ℕ → ℕ) → Plane
+badBy w h close low up ring p =
+    ltb 0 (ring p) && not (shadow low up p && close p && touching (h * w) (touch w) (source (seeds low up) ring (ring p - 1)) p)
+
+unfoldable pub unheldHere : Plane → Plane → Plane → Plane → (ℕ → ℕ) → Plane
+unheldHere low up below above ring p = (up p || above p) && not (low p || below p) && eqb (ring p) 0
+
+-- the same in the row whose bytes start at `at` and whose rings start at x
+unfoldable pub overlapIn : List ℕ → List ℕ → ℕ → ℕ → Bool
+overlapIn part sup at c = bitIn sup at c && bitIn part at c
+
+-- a pixel of the plane m, or of its row whose bytes start at `at` and whose rings start at x, that has no ring
+unfoldable pub bareHere : ℕ → List ℕ → List ℕ → Plane
+bareHere w m rings p = packed w m p && eqb (getD rings p 0) 0
+
+unfoldable pub bareIn : List ℕ → List ℕ → ℕ → ℕ → ℕ → Bool
+bareIn m rings at x c = bitIn m at c && eqb (getD rings (x + c) 0) 0
+
+-- the first n bytes of m have the pixels that hang: set in one of the upper two, and in neither of the lower two
+pub record Hangs (low up below above : List ℕ) (n : ℕ) (m : List ℕ) : Type 0 where
+  pub is : (j : ℕ) → j < n → (k : ℕ) → k < 8 →
+      bitAt (getD m j 0) k ≡ ((bitAt (getD up j 0) k || bitAt (getD above j 0) k) && not (bitAt (getD low j 0) k || bitAt (getD below j 0) k))
+
+-- what a pixel of ring k must touch
+unfoldable pub lender : ℕ → List ℕ → List ℕ → List ℕ → ℕ → Plane
+lender w low up rings k = source (seeds (packed w low) (packed w up)) (λ o. getD rings o 0) (k - 1)
+
+-- the sizes of a plane
+pub record Sized (w h : ℕ) : Type 0 where
+  pub w-low : 1 ≤ w
+  pub w-high : w ≤ 256
+  pub h-low : 1 ≤ h
+  pub h-high : h ≤ 256
+
+-- the refusals 7 and 8 of the checker's table
+unfoldable pub padCases : Settings → List ℕ → List ℕ → List Case
+padCases s part support =
+    (7 when paddingSet (s .w) (rowsOf s) part)
+    ∷ (8 when paddingSet (s .w) (rowsOf s) support)
+    ∷ []
