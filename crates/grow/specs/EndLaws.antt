@@ -5,13 +5,13 @@ use mathlib.Core.Bool.{Bool, true, false, not, _&&_, false≢true}
 use Prim.Native.Nat.{ℕ, zero, suc, _+_, _*_, _≤_, _<_, _/_, _%_}
 use native.Mathlib.Nat.{mod-lt, div-lt-iff-lt-mul}
 use native.Mathlib.Omega.{arith}
-use borrow.Author.Tests.{eqb-true, eq-eqb, ne-eqb, le-ltb, ltb-true, ltb-false}
+use borrow.Author.Tests.{eq-eqb, ne-eqb, le-ltb, ltb-true, ltb-false}
 use lib.Dec.{ltb, eqb}
-use lib.ListN.{length, getD}
+use lib.ListN.{getD}
 use Rattle.rules.specs.Images.{Plane}
 use Rattle.rules.specs.Planning.{touch, touching, source, near, grown}
 use Rattle.laws.specs.Growing.{bounded, born, path, grown-same}
-use Rattle.laws.specs.Tests.{split, clash, and-l, and-r, and-in, and-false, and-true, not-in}
+use Rattle.laws.specs.Tests.{split, clash, and-l, and-r, and-in, and-false, and-true}
 use Rattle.laws.specs.Waves.{joined-free, grown-within}
 use Rattle.image.specs.Loops.{Bits2, butNot}
 use Rattle.image.specs.Planes.{wide-row, spot-size, scratch-seen, scratch-op, scratch-same, framed-scratch}
@@ -19,7 +19,7 @@ use Rattle.image.specs.Scratch.{bitOf, spot, Sizes, Framed, Scratch, seen}
 use Rattle.image.specs.TouchLaws.{touching-out}
 use Rattle.grow.specs.Fronts.{nearIn, Apart, NearBy, Afloat, Waved, Still, Landed}
 use Rattle.relax.specs.LeastLaws.{plane-max}
-use Rattle.relax.specs.Marks.{Kit, Grows}
+use Rattle.relax.specs.Marks.{Grows}
 use Rattle.relax.specs.Relaxing.{at-rest}
 use Rattle.relax.specs.Rings.{later, Frame}
 use Rattle.grow.specs.WaveLaws.{touching-same, waves-going}
@@ -75,9 +75,6 @@ landed w h st q k t z low overL seedL ring front left got A W pos le ap' by fo b
 }
 
 module _ (w h st q k : ℕ) (low over seed : Plane) (ring front left got : List ℕ) (A : Afloat w h st ring front left) (D : Landed w h st q k low over seed ring front left got) where
-  W : Waved w h st k over seed ring front left
-  W = D .waved
-
   frame : Frame w h (nearIn w h q low over) seed
   unfolding nearIn
   frame = record { apart = λ p lp a b. D .apart p lp (and-l (over p) _ a) b; room = plane-max w h (A .sizes .w-max) (A .sizes .h-max) }

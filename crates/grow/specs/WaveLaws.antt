@@ -7,7 +7,7 @@ use native.Mathlib.Nat.{mod-lt, div-lt-iff-lt-mul}
 use native.Mathlib.Decide.{decLe, ℕ-discrete}
 use native.Mathlib.Numerals.{add-one}
 use native.Mathlib.Omega.{arith}
-use borrow.Author.Tests.{eqb-true, eq-eqb, ne-eqb, lt-ltb, le-ltb, ltb-true}
+use borrow.Author.Tests.{eq-eqb, ne-eqb, lt-ltb, le-ltb, ltb-true}
 use lib.Bits.{bitAnd}
 use lib.Dec.{ltb, eqb}
 use lib.ListN.{length, getD}
@@ -17,13 +17,13 @@ use Rattle.rules.specs.Images.{Plane, bitAt}
 use Rattle.rules.specs.Planning.{touch, touching, source, grown}
 use Rattle.rules.specs.Tools.{bit, count}
 use Rattle.laws.specs.Growing.{after, after-zero, bounded, born, path, complete, crowd, has, keep-to, length-grown, source-ring}
-use Rattle.laws.specs.Tests.{split, bool-eq, clash, and-l, and-r, and-in, and-false, and-true, or-l, not-in, not-out, some-in, some-out, count-le, count-mono}
+use Rattle.laws.specs.Tests.{split, bool-eq, clash, and-l, and-r, and-in, and-false, and-true, or-l, not-out, some-in, some-out, count-le, count-mono}
 use Rattle.laws.specs.Waves.{grown-next}
 use Rattle.image.specs.Bits.{byte-but-not}
 use Rattle.image.specs.Filling.{bit-here}
 use Rattle.image.specs.Loops.{butNot, Within}
 use Rattle.image.specs.Planes.{wide-row, spot-size, scratch-seen}
-use Rattle.image.specs.Scratch.{bitOf, spot, Sizes, Framed, Scratch, Ready, seen}
+use Rattle.image.specs.Scratch.{bitOf, spot, Sizes, Framed, Scratch, seen}
 use Rattle.image.specs.TouchLaws.{touching-out, touching-in}
 use Rattle.grow.specs.Fronts.{Apart, Afloat, Waved}
 use Rattle.relax.specs.Rings.{level, sumBy, one, later, Frame, Going}
@@ -71,9 +71,6 @@ module _ (w h st k : ℕ) (ring front left next ring' front' left' : List ℕ) (
     (sn : Scratch w h st (λ x. seen w st left x && touching (h * w) (touch w) (seen w st front) x) next)
     (wf : Within 0 ((h + 2) * st) (λ j. bitOf next j) front' front) (wl : Within 0 ((h + 2) * st) (λ j. bitOf left j && not (bitOf next j)) left' left)
     (long : length ring' ≡ length ring) where
-  z : Sizes w h st
-  z = A .sizes
-
   pub afloat-next : 8704 ≤ length front' → 8704 ≤ length left' → Afloat w h st ring' front' left'
   afloat-next lf ll = record {
     sizes = A .sizes;
@@ -159,16 +156,6 @@ count-sum [] = refl
 count-sum (x ∷ l) = count-front (length l) (λ y. ltb 0 (getD (x ∷ l) y 0)) ∙ ap₂ _+_ (one-bit x) (count-sum l)
 
 module _ (w h : ℕ) (free seed : Plane) (fr : Frame w h free seed) (k : ℕ) (some-wave : 0 < k) where
-  m : ℕ
-  m = h * w
-
-  -- the rings after k steps
-  L : List ℕ
-  L = grown (h * w) (touch w) free seed k
-
-  At : ℕ → ℕ
-  At p = after (h * w) (touch w) free seed k p
-
   ring-path : (p j : ℕ) → p < h * w → after (h * w) (touch w) free seed k p ≡ suc j → Joined (h * w) (touch w) free seed (suc j) p
   ring-path p j lp e = path (h * w) (touch w) free seed j p lp (born (h * w) (touch w) free seed k p j lp e)
 

@@ -81,8 +81,8 @@ pub fn waves(
     true
 }
 
-// The number of waves whose pixels are near by themselves: ring k is within k rows and k columns of a seed. More than four cost
-// more than they save.
+// The number of waves whose pixels are near by themselves: ring k is within k rows and k columns of a seed. At most four, since each
+// goes over whole planes, however few pixels it reaches.
 pub fn own(q: usize) -> usize
     requires { ⌜ 2 ≤ q ⌝ }
     ensures { λ t. ⌜ (0 < t) × (t ≤ 4) × (2 * (t * t) ≤ q) ⌝ }

@@ -11,7 +11,7 @@ use lib.ListN.{getD, length}
 use lib.Seq.{ext-getD}
 use Rattle.rules.specs.Demands.{Joined, start, onward}
 use Rattle.rules.specs.Images.{Plane}
-use Rattle.rules.specs.Planning.{source, touching, fits, grow, grown, touch, near}
+use Rattle.rules.specs.Planning.{source, touching, fits, grown, touch, near}
 use Rattle.rules.specs.Reach.{square, apart, distance²}
 use Rattle.laws.specs.Growing.{length-grown, fits-in, fits-out, fitting, after, after-suc, new, keep-to}
 use Rattle.laws.specs.Tests.{bool-eq, and-l, and-r, and-in, some-in}

@@ -7,7 +7,6 @@ use Prim.Native.Nat.{ℕ, _+_, _*_, _<_, _≤_}
 use lib.Dec.{ltb}
 use lib.ListN.{getD, length}
 use Rattle.rules.specs.Images.{Plane}
-use Rattle.rules.specs.Planning.{touch}
 use Rattle.image.specs.Scratch.{bitOf, Sizes, Framed, Scratch, seen}
 use Rattle.relax.specs.Rings.{later, Going, sumBy, Frame, level}
 
