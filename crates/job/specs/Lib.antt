@@ -1,4 +1,1 @@
-pub mod Runs
-pub mod Steps
-pub mod Reading
 pub mod Writing

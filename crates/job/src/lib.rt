@@ -1,25 +1,22 @@
 // Job files: reading, the stretches of part and support, copying rings, writing. The rules are 'Jobs' and 'Calls' of crate rules.
-mod numbers; // numbers.rt: big-endian numbers, and runs of bytes
-mod sizes; // sizes.rt: where sections end
-mod reading; // reading.rt: the tests of reading, and what a file holds
-mod writing; // writing.rt: the tests of writing, and the sections as bytes
+pub mod writing;
 
-use numbers::get16s;
-use reading::copy_refusal;
-use reading::layout;
-use reading::part_in;
-use reading::read_refusal;
-use reading::settings_in;
-use reading::stored_in;
-use reading::support_in;
+use crate::writing::put_job;
+use crate::writing::stored_rows;
+use crate::writing::write_refusal;
 use rules::CopiedRings;
 use rules::ReadJob;
 use rules::Settings;
 use rules::WrittenJob;
-use sizes::job_end;
-use writing::put_job;
-use writing::stored_rows;
-use writing::write_refusal;
+use sections::numbers::get16s;
+use sections::reading::copy_refusal;
+use sections::reading::layout;
+use sections::reading::part_in;
+use sections::reading::read_refusal;
+use sections::reading::settings_in;
+use sections::reading::stored_in;
+use sections::reading::support_in;
+use sections::sizes::job_end;
 ghost use mathlib.Core.Path.{_≡_};
 ghost use lib.ListN.{length};
 ghost use Rattle.rules.specs.Jobs.{Job};

@@ -3,8 +3,8 @@ use mathlib.Core.List.{[]}
 use denote.Ref.{now}
 use Rattle.rules.specs.Jobs.{partIn}
 use Rattle.rules.specs.Calls.{partAnswer}
-use Rattle.job.specs.Reading.{head-whole, behind}
-use Rattle.job.specs.Steps.{says-no, says-yes}
+use Rattle.sections.specs.Reading.{head-whole, behind}
+use Rattle.sections.specs.Steps.{says-no, says-yes}
 use native.Mathlib.Omega.{arith}
 use borrow.Author.Needs.{needs}
 use Rattle.job.proofs.part.Statement.{statement}

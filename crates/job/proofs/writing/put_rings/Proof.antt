@@ -2,7 +2,7 @@ use mathlib.Core.Path.{ap, sym}
 use Prim.Native.Nat.{ℕ, _+_}
 use denote.Ref.{now}
 use Rattle.laws.specs.Numbers.{length-put16s}
-use Rattle.job.specs.Runs.{counted}
+use Rattle.sections.specs.Runs.{counted}
 use borrow.Author.Needs.{needs}
 use Rattle.job.proofs.writing.put_rings.Statement.{statement}
 use Rattle.job.proofs.writing.put_rings.Tie as tie

@@ -1,5 +1,5 @@
 use mathlib.Core.Path.{refl}
-use Rattle.job.specs.Runs.{counted}
+use Rattle.sections.specs.Runs.{counted}
 use borrow.Author.Needs.{needs}
 use Rattle.job.proofs.writing.put_rows.Statement.{statement}
 use Rattle.job.proofs.writing.put_rows.Tie as tie

@@ -3,7 +3,7 @@ use Prim.Native.Nat.{ℕ}
 use Rattle.rules.specs.Tools.{refusal}
 use Rattle.rules.specs.Jobs.{jobEnd, fileLength}
 use Rattle.laws.specs.JobFiles.{writeRoom, write-parts, lengths-out}
-use Rattle.job.specs.Steps.{stops, goes-on}
+use Rattle.sections.specs.Steps.{stops, goes-on}
 use borrow.Author.Needs.{needs}
 use Rattle.job.proofs.writing.write_refusal.Statement.{statement}
 use Rattle.job.proofs.writing.write_refusal.Tie as tie

@@ -1,0 +1,69 @@
+use mathlib.Core.Path.{_≡_, refl, ap, ap₂, _∙_}
+use mathlib.Core.List.{List, _++_, append-nil}
+use Prim.Native.Nat.{ℕ, _+_, _-_, _*_, _≤_, _<_}
+use lib.ListN.{length, drop, set, length-set}
+use lib.Seq.{drop-length}
+use denote.Ref.{now}
+use Rattle.rules.specs.Jobs as jobs
+use Rattle.rules.specs.Jobs.{be16}
+use Rattle.sections.specs.Runs.{copy-more}
+use native.Mathlib.Omega.{arith}
+use Rattle.sections.proofs.numbers.get16s.Statement.{statement}
+use Rattle.sections.proofs.numbers.get16s.Tie as tie
+
+abbrev Inv-loop : tie.InvT-loop
+Inv-loop f at out₀ i₀ j₀ out i j = (out ≡ jobs.get16s f at i ++ drop i out₀) × (j ≡ at + i * 2) × (i ≤ length out₀) × (length out ≡ length out₀)
+
+abbrev μ-loop : tie.MeasureT-loop
+μ-loop f at out₀ i₀ j₀ out i j = length out₀ - i
+
+loop-holds : tie.Need-loop-holds Inv-loop μ-loop
+loop-holds c = (refl, omega arith, omega arith, refl)
+
+get16-requires : tie.Need-get16-requires Inv-loop μ-loop
+get16-requires c κs = omega arith
+
+mul-out : tie.Need-mul-out Inv-loop μ-loop
+mul-out c = omega arith
+
+slice-write-out : tie.Need-slice-write-out Inv-loop μ-loop
+slice-write-out c = omega arith
+
+add-i : tie.Need-add-i Inv-loop μ-loop
+add-i c = omega arith
+
+add-j : tie.Need-add-j Inv-loop μ-loop
+add-j c = omega arith
+
+loop-less : tie.Need-loop-less Inv-loop μ-loop
+loop-less c = omega arith
+
+loop-again : tie.Need-loop-again Inv-loop μ-loop
+loop-again c =
+    let h : c .before .before .loop .i < length (now (c .before .before .before .before .before .args .out)) = omega arith in
+    (ap₂ (λ (l : List ℕ) (v : ℕ). set l (c .before .before .loop .i) v) (c .before .before .loop .inv .0) (c .get16 .ensures .0 ∙ ap (be16 (now (c .before .before .before .before .before .args .f))) (c .before .before .loop .inv .1)) ∙ copy-more _ _ _ _ h, omega arith, omega arith, simp length-set (c .before .before .loop .inv .3))
+
+same-length : tie.Need-same-length Inv-loop μ-loop
+same-length c = c .before .loop .inv .3
+
+returns : tie.Need-returns Inv-loop μ-loop
+returns c =
+    let e : c .before .loop .i ≡ length (now (c .before .before .before .before .args .out)) = omega arith in
+    c .before .loop .inv .0 ∙ rw (e, drop-length, append-nil)
+
+pub get16s-spec : {M : Type 1} → statement M
+get16s-spec =
+    tie.close
+    (tie.spec
+    Inv-loop
+    μ-loop
+    loop-holds
+    get16-requires
+    mul-out
+    slice-write-out
+    add-i
+    add-j
+    loop-less
+    loop-again
+    same-length
+    returns)

@@ -1,0 +1,41 @@
+use mathlib.Core.Path.{sym, _∙_}
+use denote.Ref.{now}
+use Rattle.laws.specs.JobFiles.{copy-parts}
+use Rattle.sections.specs.Reading.{head-whole, behind, rings-right, rings-wrong}
+use Rattle.sections.specs.Steps.{stops, goes-on}
+use borrow.Author.Needs.{needs}
+use Rattle.sections.proofs.reading.copy_refusal.Statement.{statement}
+use Rattle.sections.proofs.reading.copy_refusal.Tie as tie
+
+read-refusal-requires : tie.Need-read-refusal-requires
+read-refusal-requires c κs = search needs
+
+returns : tie.Need-returns
+returns c = stops _ (c .before .read-refusal .ensures) (c .if1 .taken) ∙ sym (copy-parts _ _)
+
+settings-in-requires : tie.Need-settings-in-requires
+settings-in-requires c κs = head-whole _ (sym (c .before .read-refusal .ensures) ∙ c .if1 .left)
+
+stored-in-requires : tie.Need-stored-in-requires
+stored-in-requires c κs = let b = behind _ _ (sym (c .before .before .read-refusal .ensures) ∙ c .before .if1 .left) (c .settings-in .ensures) in (b .fine, b .count)
+
+ring-count-requires : tie.Need-ring-count-requires
+ring-count-requires c κs = behind _ _ (sym (c .before .before .before .read-refusal .ensures) ∙ c .before .before .if1 .left) (c .before .settings-in .ensures) .fine
+
+returns-2 : tie.Need-returns-2
+returns-2 c = goes-on (c .before .before .before .before .before .read-refusal .ensures) (c .before .before .before .before .if1 .left) (rings-wrong (now (c .before .before .before .before .before .before .before .args .f)) _ _ _ (c .before .before .before .before .before .before .before .args .room) (c .before .before .before .settings-in .ensures) (c .before .before .stored-in .ensures) (c .before .ring-count .ensures .0) (c .if2 .taken)) ∙ sym (copy-parts _ _)
+
+returns-3 : tie.Need-returns-3
+returns-3 c = goes-on (c .before .before .before .before .before .read-refusal .ensures) (c .before .before .before .before .if1 .left) (rings-right (now (c .before .before .before .before .before .before .before .args .f)) _ _ _ (c .before .before .before .before .before .before .before .args .room) (c .before .before .before .settings-in .ensures) (c .before .before .stored-in .ensures) (c .before .ring-count .ensures .0) (c .if2 .left)) ∙ sym (copy-parts _ _)
+
+pub copy-refusal-spec : {M : Type 1} → statement M
+copy-refusal-spec =
+    tie.close
+    (tie.spec
+    read-refusal-requires
+    returns
+    settings-in-requires
+    stored-in-requires
+    ring-count-requires
+    returns-2
+    returns-3)

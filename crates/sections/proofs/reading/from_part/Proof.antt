@@ -1,0 +1,44 @@
+use mathlib.Core.Path.{sym, ap, _∙_}
+use denote.Ref.{now}
+use Rattle.laws.specs.JobFiles.{bodyRefusal, ringsRefusal, section-out}
+use Rattle.sections.specs.Reading.{stored-whole}
+use Rattle.sections.specs.Steps.{stops, goes-on}
+use borrow.Author.Needs.{needs}
+use Rattle.sections.proofs.reading.from_part.Statement.{statement}
+use Rattle.sections.proofs.reading.from_part.Tie as tie
+
+part-section-requires : tie.Need-part-section-requires
+part-section-requires c κs = search needs
+
+returns : tie.Need-returns
+unfolding bodyRefusal
+returns c = stops _ (c .before .part-section .ensures) (c .if1 .taken)
+
+support-section-requires : tie.Need-support-section-requires
+support-section-requires c κs = search needs
+
+returns-2 : tie.Need-returns-2
+unfolding bodyRefusal
+returns-2 c = goes-on (c .before .before .before .part-section .ensures) (c .before .before .if1 .left) (stops _ (c .before .support-section .ensures) (c .if2 .taken))
+
+stored-in-requires : tie.Need-stored-in-requires
+stored-in-requires c κs = (c .before .before .before .before .before .pre .0, section-out _ _ _ _ (sym (c .before .support-section .ensures) ∙ c .if2 .left) .room)
+
+from-rings-requires : tie.Need-from-rings-requires
+from-rings-requires c κs = stored-whole _ _ _ (c .stored-in .ensures) (c .before .before .before .before .before .before .pre .0) (c .before .before .before .before .before .before .pre .1) (section-out _ _ _ _ (sym (c .before .before .support-section .ensures) ∙ c .before .if2 .left))
+
+returns-3 : tie.Need-returns-3
+unfolding bodyRefusal
+returns-3 c = goes-on (c .before .before .before .before .before .part-section .ensures) (c .before .before .before .before .if1 .left) (goes-on (c .before .before .before .support-section .ensures) (c .before .before .if2 .left) (c .from-rings .ensures ∙ ap (ringsRefusal (now (c .before .before .before .before .before .before .before .args .f)) (c .before .before .before .before .before .before .before .args .s)) (c .before .stored-in .ensures)))
+
+pub from-part-spec : {M : Type 1} → statement M
+from-part-spec =
+    tie.close
+    (tie.spec
+    part-section-requires
+    returns
+    support-section-requires
+    returns-2
+    stored-in-requires
+    from-rings-requires
+    returns-3)

@@ -1,0 +1,43 @@
+use Rattle.rules.specs.Jobs.{headEnd, storedIn, layoutOf}
+use Rattle.sections.specs.Reading.{head-whole, behind, stored-accepted}
+use borrow.Author.Needs.{needs}
+use Rattle.sections.proofs.reading.layout.Statement.{statement}
+use Rattle.sections.proofs.reading.layout.Tie as tie
+
+settings-in-requires : tie.Need-settings-in-requires
+settings-in-requires c κs = head-whole _ (c .before .pre)
+
+stored-in-requires : tie.Need-stored-in-requires
+stored-in-requires c κs = let b = behind _ _ (c .before .before .pre) (c .settings-in .ensures) in (b .fine, b .count)
+
+part-end-requires : tie.Need-part-end-requires
+part-end-requires c κs = behind _ _ (c .before .before .before .pre) (c .before .settings-in .ensures) .fine
+
+add-support : tie.Need-add-support
+add-support c = search needs
+
+support-end-requires : tie.Need-support-end-requires
+support-end-requires c κs = let v = stored-accepted _ _ _ (c .before .stored-in .ensures) (c .before .before .before .before .pre) (c .before .before .settings-in .ensures) in (v .fine, v .most)
+
+add-rings : tie.Need-add-rings
+add-rings c = search needs
+
+add-t6 : tie.Need-add-t6
+add-t6 c = search needs
+
+returns : tie.Need-returns
+unfolding layoutOf storedIn headEnd
+returns c = rw (c .before .part-end .ensures .0, c .support-end .ensures .0, c .before .before .stored-in .ensures, c .before .before .before .settings-in .ensures)
+
+pub layout-spec : {M : Type 1} → statement M
+layout-spec =
+    tie.close
+    (tie.spec
+    settings-in-requires
+    stored-in-requires
+    part-end-requires
+    add-support
+    support-end-requires
+    add-rings
+    add-t6
+    returns)

@@ -1,0 +1,35 @@
+use mathlib.Core.Path.{ap, ap₂, _∙_}
+use Prim.Native.Nat.{ℕ}
+use denote.Ref.{now}
+use Rattle.rules.specs.Tools.{refusal}
+use Rattle.rules.specs.Jobs.{partEnd}
+use Rattle.rules.specs.Calls.{sectionCases}
+use Rattle.laws.specs.Limits.{ranged}
+use Rattle.sections.specs.Reading.{oneOf, none-or-all}
+use borrow.Author.Needs.{needs}
+use Rattle.sections.proofs.reading.support_section.Statement.{statement}
+use Rattle.sections.proofs.reading.support_section.Tie as tie
+
+part-end-requires : tie.Need-part-end-requires
+part-end-requires c κs = search needs
+
+rows-of-requires : tie.Need-rows-of-requires
+rows-of-requires c κs = search needs
+
+row-bytes-requires : tie.Need-row-bytes-requires
+row-bytes-requires c κs = ranged (c .before .before .before .args .s) (c .before .before .before .pre) .w-high
+
+section-requires : tie.Need-section-requires
+section-requires c κs = search needs
+
+returns : tie.Need-returns
+returns c =
+    c .section .ensures
+    ∙ ap (λ (at : ℕ). refusal (sectionCases (now (c .before .before .before .before .before .args .f)) at (oneOf 0 (c .before .before .rows-of .result)) (c .before .row-bytes .result))) (c .before .before .before .part-end .ensures .0)
+    ∙ ap₂ (λ (a u : ℕ). refusal (sectionCases (now (c .before .before .before .before .before .args .f)) (partEnd (c .before .before .before .before .before .args .s)) (oneOf 0 a) u)) (c .before .before .rows-of .ensures .0) (c .before .row-bytes .ensures .0)
+    ∙ none-or-all (now (c .before .before .before .before .before .args .f)) (c .before .before .before .before .before .args .s) _ _
+
+pub support-section-spec : {M : Type 1} → statement M
+support-section-spec =
+    tie.close
+    (tie.spec part-end-requires rows-of-requires row-bytes-requires section-requires returns)
