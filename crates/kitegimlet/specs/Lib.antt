@@ -1,3 +1,4 @@
-pub mod Packed
-pub mod Seen
+-- Any two outcomes of an exported call are equal.
 pub mod Outcomes
+-- Laws of reading.
+pub mod Reading

@@ -6,7 +6,7 @@ use lib.ListN.{length}
 use Rattle.rules.specs.Jobs.{Job}
 use Rattle.rules.specs.Calls.{reachAnswer, planAnswer, planSupport, planRings, judgeAnswer, readRefusal, copyAnswer, copyRings, writeAnswer, writeTo}
 use Rattle.rules.specs.declared.Settings.{Settings}
-use Rattle.kitegimlet.specs.Packed.{um, packReached, packPlanned, packJudged, packCopied, packWritten, toldIn, partStretch, supportStretch}
+use Rattle.answers.specs.Packed.{um, packReached, packPlanned, packJudged, packCopied, packWritten, toldIn, partStretch, supportStretch}
 
 -- kg_reach, kg_check, kg_part, kg_support: only a number comes back
 pub kg-reach-settled : (pitch overhang a b : ℕ) → a ≡ packReached (reachAnswer (um pitch) (um overhang)) → b ≡ packReached (reachAnswer (um pitch) (um overhang)) → a ≡ b

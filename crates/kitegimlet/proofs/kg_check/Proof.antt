@@ -1,5 +1,5 @@
 use mathlib.Core.Path.{_≡_, refl, sym, ap, _∙_}
-use Rattle.kitegimlet.specs.Packed.{packReached, packJudged, packCopied, packWritten, settingsOf, jobOf}
+use Rattle.answers.specs.Packed.{packReached, packJudged, packCopied, packWritten, settingsOf, jobOf}
 use Rattle.rules.specs.declared.Settings.{Settings}
 use Rattle.rules.specs.Calls.{judgeAnswer}
 use native.Mathlib.Omega.{arith}
@@ -9,8 +9,8 @@ use Rattle.kitegimlet.proofs.kg_check.Tie as tie
 use Rattle.kitegimlet.proofs.kg_check.Reads as reads
 use Rattle.kitegimlet.proofs.kg_check.Lts as lts
 use Rattle.judge.proofs.judge.Reads as judge-reads
-use Rattle.kitegimlet.proofs.pack_judged.Reads as pack-judged-reads
-use Rattle.kitegimlet.proofs.settings.Reads as settings-reads
+use Rattle.answers.proofs.pack_judged.Reads as pack-judged-reads
+use Rattle.answers.proofs.settings.Reads as settings-reads
 
 settings-requires : tie.Need-settings-requires
 settings-requires c κs = search needs

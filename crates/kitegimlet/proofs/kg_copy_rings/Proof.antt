@@ -1,5 +1,5 @@
 use mathlib.Core.Path.{_≡_, refl, sym, ap, _∙_}
-use Rattle.kitegimlet.specs.Packed.{packReached, packJudged, packCopied, packWritten, settingsOf, jobOf}
+use Rattle.answers.specs.Packed.{packReached, packJudged, packCopied, packWritten, settingsOf, jobOf}
 use native.Mathlib.Omega.{arith}
 use borrow.Author.Needs.{needs}
 use Rattle.kitegimlet.proofs.kg_copy_rings.Statement.{statement}
@@ -7,7 +7,7 @@ use Rattle.kitegimlet.proofs.kg_copy_rings.Tie as tie
 use Rattle.kitegimlet.proofs.kg_copy_rings.Reads as reads
 use Rattle.kitegimlet.proofs.kg_copy_rings.Lts as lts
 use Rattle.job.proofs.copy_rings.Reads as copy-rings-reads
-use Rattle.kitegimlet.proofs.pack_copied.Reads as pack-copied-reads
+use Rattle.answers.proofs.pack_copied.Reads as pack-copied-reads
 
 copy-rings-requires : tie.Need-copy-rings-requires
 copy-rings-requires c κs = search needs

@@ -1,4 +1,4 @@
-use Rattle.kitegimlet.proofs.Reading.{part-room, part-yes, part-no}
+use Rattle.kitegimlet.specs.Reading.{part-room, part-yes, part-no}
 use native.Mathlib.Omega.{arith}
 use borrow.Author.Needs.{needs}
 use Rattle.kitegimlet.proofs.kg_part.Statement.{statement}
@@ -6,7 +6,7 @@ use Rattle.kitegimlet.proofs.kg_part.Tie as tie
 use Rattle.kitegimlet.proofs.kg_part.Reads as reads
 use Rattle.kitegimlet.proofs.kg_part.Lts as lts
 use Rattle.job.proofs.read.Reads as read-reads
-use Rattle.kitegimlet.proofs.part_stretch.Reads as part-stretch-reads
+use Rattle.answers.proofs.part_stretch.Reads as part-stretch-reads
 
 read-requires : tie.Need-read-requires
 read-requires c κs = search needs

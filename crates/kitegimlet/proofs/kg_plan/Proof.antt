@@ -2,15 +2,15 @@ use mathlib.Core.Path.{_≡_, ap, _∙_}
 use lib.ListN.{length}
 use Rattle.rules.specs.Calls.{planAnswer, planSupport, planRings}
 use Rattle.rules.specs.declared.Settings.{Settings}
-use Rattle.kitegimlet.specs.Packed.{packPlanned}
+use Rattle.answers.specs.Packed.{packPlanned}
 use native.Mathlib.Omega.{arith}
 use borrow.Author.Needs.{needs}
 use Rattle.kitegimlet.proofs.kg_plan.Statement.{statement}
 use Rattle.kitegimlet.proofs.kg_plan.Tie as tie
 use Rattle.kitegimlet.proofs.kg_plan.Reads as reads
 use Rattle.kitegimlet.proofs.kg_plan.Lts as lts
-use Rattle.kitegimlet.proofs.pack_planned.Reads as pack-planned-reads
-use Rattle.kitegimlet.proofs.settings.Reads as settings-reads
+use Rattle.answers.proofs.pack_planned.Reads as pack-planned-reads
+use Rattle.answers.proofs.settings.Reads as settings-reads
 use Rattle.plan.proofs.plan.Reads as plan-reads
 
 settings-requires : tie.Need-settings-requires

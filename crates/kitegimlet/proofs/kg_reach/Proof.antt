@@ -1,12 +1,12 @@
 use mathlib.Core.Path.{_≡_, refl, sym, ap, _∙_}
-use Rattle.kitegimlet.specs.Packed.{packReached, packJudged, packCopied, packWritten, settingsOf, jobOf}
+use Rattle.answers.specs.Packed.{packReached, packJudged, packCopied, packWritten, settingsOf, jobOf}
 use native.Mathlib.Omega.{arith}
 use borrow.Author.Needs.{needs}
 use Rattle.kitegimlet.proofs.kg_reach.Statement.{statement}
 use Rattle.kitegimlet.proofs.kg_reach.Tie as tie
 use Rattle.kitegimlet.proofs.kg_reach.Reads as reads
 use Rattle.kitegimlet.proofs.kg_reach.Lts as lts
-use Rattle.kitegimlet.proofs.pack_reached.Reads as pack-reached-reads
+use Rattle.answers.proofs.pack_reached.Reads as pack-reached-reads
 use Rattle.limits.proofs.reach.Reads as reach-reads
 
 reach-requires : tie.Need-reach-requires

@@ -1,4 +1,4 @@
-use Rattle.kitegimlet.proofs.Reading.{read-told, read-kept}
+use Rattle.kitegimlet.specs.Reading.{read-told, read-kept}
 use native.Mathlib.Omega.{arith}
 use borrow.Author.Needs.{needs}
 use Rattle.kitegimlet.proofs.kg_read.Statement.{statement}
@@ -6,8 +6,8 @@ use Rattle.kitegimlet.proofs.kg_read.Tie as tie
 use Rattle.kitegimlet.proofs.kg_read.Reads as reads
 use Rattle.kitegimlet.proofs.kg_read.Lts as lts
 use Rattle.job.proofs.read.Reads as read-reads
-use Rattle.kitegimlet.proofs.tell.Reads as tell-reads
-use Rattle.kitegimlet.proofs.wide.Reads as wide-reads
+use Rattle.answers.proofs.tell.Reads as tell-reads
+use Rattle.answers.proofs.wide.Reads as wide-reads
 
 read-requires : tie.Need-read-requires
 read-requires c κs = search needs

@@ -1,4 +1,4 @@
-use Rattle.kitegimlet.proofs.Reading.{support-room, support-yes, support-no}
+use Rattle.kitegimlet.specs.Reading.{support-room, support-yes, support-no}
 use native.Mathlib.Omega.{arith}
 use borrow.Author.Needs.{needs}
 use Rattle.kitegimlet.proofs.kg_support.Statement.{statement}
@@ -6,7 +6,7 @@ use Rattle.kitegimlet.proofs.kg_support.Tie as tie
 use Rattle.kitegimlet.proofs.kg_support.Reads as reads
 use Rattle.kitegimlet.proofs.kg_support.Lts as lts
 use Rattle.job.proofs.read.Reads as read-reads
-use Rattle.kitegimlet.proofs.support_stretch.Reads as support-stretch-reads
+use Rattle.answers.proofs.support_stretch.Reads as support-stretch-reads
 
 read-requires : tie.Need-read-requires
 read-requires c κs = search needs

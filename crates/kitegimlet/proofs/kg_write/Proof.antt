@@ -1,5 +1,5 @@
 use mathlib.Core.Path.{_≡_, refl, sym, ap, _∙_}
-use Rattle.kitegimlet.specs.Packed.{packReached, packJudged, packCopied, packWritten, settingsOf, jobOf}
+use Rattle.answers.specs.Packed.{packReached, packJudged, packCopied, packWritten, settingsOf, jobOf}
 use lib.ListN.{length}
 use Rattle.rules.specs.declared.Settings.{Settings}
 use Rattle.rules.specs.Calls.{writeAnswer, writeTo}
@@ -10,8 +10,8 @@ use Rattle.kitegimlet.proofs.kg_write.Tie as tie
 use Rattle.kitegimlet.proofs.kg_write.Reads as reads
 use Rattle.kitegimlet.proofs.kg_write.Lts as lts
 use Rattle.job.proofs.write.Reads as write-reads
-use Rattle.kitegimlet.proofs.pack_written.Reads as pack-written-reads
-use Rattle.kitegimlet.proofs.settings.Reads as settings-reads
+use Rattle.answers.proofs.pack_written.Reads as pack-written-reads
+use Rattle.answers.proofs.settings.Reads as settings-reads
 
 settings-requires : tie.Need-settings-requires
 settings-requires c κs = search needs

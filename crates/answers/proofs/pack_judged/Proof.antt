@@ -1,11 +1,11 @@
 use mathlib.Core.Path.{_≡_, refl, sym, ap, _∙_}
 use native.Mathlib.Omega.{arith}
 use borrow.Author.Needs.{needs}
-use Rattle.kitegimlet.proofs.pack_judged.Statement.{statement}
-use Rattle.kitegimlet.proofs.pack_judged.Tie as tie
-use Rattle.kitegimlet.proofs.pack_judged.Reads as reads
-use Rattle.kitegimlet.proofs.pack_judged.Lts as lts
-use Rattle.kitegimlet.proofs.wide.Reads as wide-reads
+use Rattle.answers.proofs.pack_judged.Statement.{statement}
+use Rattle.answers.proofs.pack_judged.Tie as tie
+use Rattle.answers.proofs.pack_judged.Reads as reads
+use Rattle.answers.proofs.pack_judged.Lts as lts
+use Rattle.answers.proofs.wide.Reads as wide-reads
 
 enum-told : tie.Need-enum-told
 enum-told c = search needs

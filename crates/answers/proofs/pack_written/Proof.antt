@@ -1,12 +1,12 @@
 use mathlib.Core.Path.{_≡_, refl, sym, ap, _∙_}
 use native.Mathlib.Omega.{arith}
 use borrow.Author.Needs.{needs}
-use Rattle.kitegimlet.proofs.pack_written.Statement.{statement}
-use Rattle.kitegimlet.proofs.pack_written.Tie as tie
-use Rattle.kitegimlet.proofs.pack_written.Reads as reads
-use Rattle.kitegimlet.proofs.pack_written.Lts as lts
-use Rattle.kitegimlet.proofs.above.Reads as above-reads
-use Rattle.kitegimlet.proofs.wide.Reads as wide-reads
+use Rattle.answers.proofs.pack_written.Statement.{statement}
+use Rattle.answers.proofs.pack_written.Tie as tie
+use Rattle.answers.proofs.pack_written.Reads as reads
+use Rattle.answers.proofs.pack_written.Lts as lts
+use Rattle.answers.proofs.above.Reads as above-reads
+use Rattle.answers.proofs.wide.Reads as wide-reads
 
 enum-known-w : tie.Need-enum-known-w
 enum-known-w c = search needs

@@ -13,7 +13,7 @@ use Rattle.rules.specs.declared.ReadJob.{ReadJob}
 use Rattle.rules.specs.declared.ReadJob.the-variants.{Job, Refused}
 use Rattle.laws.specs.Refusals.{answer-fine, answer-refused}
 use Rattle.laws.specs.Demand1.{job-read, job-refused}
-use Rattle.kitegimlet.specs.Packed.{told, toldIn, stretch, partStretch, supportStretch}
+use Rattle.answers.specs.Packed.{told, toldIn, stretch, partStretch, supportStretch}
 
 -- a section is as long as what lies between its offset and the next count
 part-length : (f : List ℕ) → layoutOf f .support - 4 - layoutOf f .part ≡ stackBytes (settingsIn f)

@@ -37,7 +37,7 @@ use Rattle.laws.specs.Demand3.{fine-out}
 use Rattle.laws.specs.JobFiles.{accepted-exactly, rooms, writable-exactly, longest-job}
 use Rattle.laws.specs.Offsets.{longest-file}
 use Rattle.laws.specs.ReportLaws.{take-all}
-use Rattle.kitegimlet.specs.Packed.{above, packReached, packPlanned, packJudged, packCopied, packWritten, told, toldIn, stretch, partStretch, supportStretch}
+use Rattle.answers.specs.Packed.{above, packReached, packPlanned, packJudged, packCopied, packWritten, told, toldIn, stretch, partStretch, supportStretch}
 
 -- kg_number, kg_value, kg_layer, kg_row, kg_column; kg_offset, kg_length
 abbrev pub number : ℕ → ℕ

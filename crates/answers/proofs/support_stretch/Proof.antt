@@ -1,10 +1,10 @@
 use native.Mathlib.Omega.{arith}
 use borrow.Author.Needs.{needs}
-use Rattle.kitegimlet.proofs.support_stretch.Statement.{statement}
-use Rattle.kitegimlet.proofs.support_stretch.Tie as tie
-use Rattle.kitegimlet.proofs.support_stretch.Reads as reads
-use Rattle.kitegimlet.proofs.support_stretch.Lts as lts
-use Rattle.kitegimlet.proofs.stretch.Reads as stretch-reads
+use Rattle.answers.proofs.support_stretch.Statement.{statement}
+use Rattle.answers.proofs.support_stretch.Tie as tie
+use Rattle.answers.proofs.support_stretch.Reads as reads
+use Rattle.answers.proofs.support_stretch.Lts as lts
+use Rattle.answers.proofs.stretch.Reads as stretch-reads
 
 sub-stretch : tie.Need-sub-stretch
 sub-stretch c = search needs

@@ -1,16 +1,16 @@
-use Rattle.kitegimlet.proofs.Filled.{toldWith, told-short, told-all}
+use Rattle.answers.specs.Filled.{toldWith, told-short, told-all}
 use Prim.Native.Nat.{ℕ, _-_, _≤_}
 use mathlib.Core.Path.{_≡_, refl, sym, ap, _∙_}
 use mathlib.Core.List.{List, _++_}
 use lib.ListN.{length, getD, set, take, drop}
-use Rattle.kitegimlet.proofs.Filled.{filled-more, filled-length, filled-short, filled-all}
+use Rattle.answers.specs.Filled.{filled-more, filled-length, filled-short, filled-all}
 use native.Mathlib.Omega.{arith}
 use borrow.Author.Needs.{needs}
-use Rattle.kitegimlet.proofs.tell.Statement.{statement}
-use Rattle.kitegimlet.proofs.tell.Tie as tie
-use Rattle.kitegimlet.proofs.tell.Reads as reads
-use Rattle.kitegimlet.proofs.tell.Lts as lts
-use Rattle.kitegimlet.proofs.flag.Reads as flag-reads
+use Rattle.answers.proofs.tell.Statement.{statement}
+use Rattle.answers.proofs.tell.Tie as tie
+use Rattle.answers.proofs.tell.Reads as reads
+use Rattle.answers.proofs.tell.Lts as lts
+use Rattle.answers.proofs.flag.Reads as flag-reads
 
 abbrev Inv-loop : tie.InvT-loop
 Inv-loop room₀ stored all i₀ room i = (i ≤ 10) × (i ≤ length room₀) × (room ≡ take i all ++ drop i room₀)

@@ -2,10 +2,10 @@ use mathlib.Core.Path.{sym}
 use Rattle.rules.specs.Tools.{bit}
 use native.Mathlib.Omega.{arith}
 use borrow.Author.Needs.{needs}
-use Rattle.kitegimlet.proofs.flag.Statement.{statement}
-use Rattle.kitegimlet.proofs.flag.Tie as tie
-use Rattle.kitegimlet.proofs.flag.Reads as reads
-use Rattle.kitegimlet.proofs.flag.Lts as lts
+use Rattle.answers.proofs.flag.Statement.{statement}
+use Rattle.answers.proofs.flag.Tie as tie
+use Rattle.answers.proofs.flag.Reads as reads
+use Rattle.answers.proofs.flag.Lts as lts
 
 returns : tie.Need-returns
 unfolding bit

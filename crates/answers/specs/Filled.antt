@@ -6,7 +6,7 @@ use native.Mathlib.Numerals.{add-one}
 use native.Mathlib.Omega.{arith}
 use Rattle.rules.specs.Tools.{bit}
 use Rattle.rules.specs.declared.Layout.{Layout}
-use Rattle.kitegimlet.specs.Packed.{told}
+use Rattle.answers.specs.Packed.{told}
 use lib.ListN.{length, getD, take, drop, set, length-append, length-drop, drop-of-length-le}
 use lib.Seq.{take-suc, take-all, length-take-le, drop-cons, set-at, append-snoc}
 

@@ -1,12 +1,12 @@
 use mathlib.Core.Path.{_≡_, refl, sym, ap, _∙_}
 use native.Mathlib.Omega.{arith}
 use borrow.Author.Needs.{needs}
-use Rattle.kitegimlet.proofs.pack_reached.Statement.{statement}
-use Rattle.kitegimlet.proofs.pack_reached.Tie as tie
-use Rattle.kitegimlet.proofs.pack_reached.Reads as reads
-use Rattle.kitegimlet.proofs.pack_reached.Lts as lts
-use Rattle.kitegimlet.proofs.above.Reads as above-reads
-use Rattle.kitegimlet.proofs.wide.Reads as wide-reads
+use Rattle.answers.proofs.pack_reached.Statement.{statement}
+use Rattle.answers.proofs.pack_reached.Tie as tie
+use Rattle.answers.proofs.pack_reached.Reads as reads
+use Rattle.answers.proofs.pack_reached.Lts as lts
+use Rattle.answers.proofs.above.Reads as above-reads
+use Rattle.answers.proofs.wide.Reads as wide-reads
 
 enum-known-r : tie.Need-enum-known-r
 enum-known-r c = search needs
