@@ -21,8 +21,8 @@ use Rattle.image.specs.Packed.{plane-clean, plane-at, plane-long, plane-pixel, 
 use Rattle.image.specs.Planes.{row-fits, row-next}
 use Rattle.image.specs.Rows.{Clean, Packs, packed, planeBytes, plane, OnlyPlane}
 use Rattle.image.specs.Stretches.{put-plane, put-only}
-use Rattle.plan.specs.PairLaws.{rings-same, support-same, packs-same}
-use Rattle.plan.specs.Pairs.{pairRings, unexcused, pairSupport}
+use Rattle.pair.specs.PairLaws.{rings-same, support-same, packs-same}
+use Rattle.pair.specs.Pairs.{pairRings, unexcused, pairSupport}
 use Rattle.plan.specs.Stacks.{From, plannedStack, Down}
 
 -- Lists that agree from some place on -----------------------------------------------------------------------------------

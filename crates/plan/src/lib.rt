@@ -1,5 +1,4 @@
 // Planning: support and ring numbers of a stack, from the top layer down. The call refuses, or works, and answers.
-pub mod pair;
 pub mod stack;
 
 use rules::Planned;

@@ -44,7 +44,7 @@ fn layer_at(
     let a = i * size;
     let m = a + size;
     let x = i * area;
-    crate::pair::layer(
+    pair::layer(
         &part[a..m],
         &part[m..m + size],
         above,

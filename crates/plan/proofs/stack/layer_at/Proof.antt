@@ -3,19 +3,19 @@ use mathlib.Core.List.{List}
 use Prim.Native.Nat.{ℕ, suc, _-_, _+_, _*_, _<_}
 use borrow.Rule.Slice.PartMut.{same-len-mid, putMid}
 use lib.ListN.{length}
-use Rattle.plan.specs.PairLaws.{plane-size}
+use Rattle.pair.specs.PairLaws.{plane-size}
 use Rattle.plan.specs.StackLaws.{layer-room, up-room, ring-room, area-max, lent-low, lent-up, lent-rings, lent-support, cutLow, cutUp, layer-done}
 use Rattle.plan.specs.Stacks.{Down}
 use Rattle.image.specs.Rows.{packed, Packs}
 use Rattle.image.specs.Stretches.{mid-put}
-use Rattle.plan.specs.Pairs.{pairSupport}
+use Rattle.pair.specs.Pairs.{pairSupport}
 use native.Mathlib.Omega.{arith}
 use borrow.Author.Needs.{needs}
 use Rattle.plan.proofs.stack.layer_at.Statement.{statement}
 use Rattle.plan.proofs.stack.layer_at.Tie as tie
 use Rattle.plan.proofs.stack.layer_at.Reads as reads
 use Rattle.plan.proofs.stack.layer_at.Lts as lts
-use Rattle.plan.proofs.pair.layer.Reads as layer-reads
+use Rattle.pair.proofs.layer.Reads as layer-reads
 use Rattle.plan.proofs.stack.put.Reads as put-reads
 
 -- src/stack.rt:42:21

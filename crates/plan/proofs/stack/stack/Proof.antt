@@ -1,7 +1,7 @@
 use mathlib.Core.Path.{sym, _∙_}
 use Prim.Native.Nat.{_-_, _*_}
 use lib.ListN.{take, replicate}
-use Rattle.plan.specs.PairLaws.{plane-size, fresh-pack, zeros-small}
+use Rattle.pair.specs.PairLaws.{plane-size, fresh-pack, zeros-small}
 use Rattle.plan.specs.StackLaws.{down-start}
 use native.Mathlib.Omega.{arith}
 use borrow.Author.Needs.{needs}

@@ -5,7 +5,7 @@ use borrow.Rule.Slice.PartMut.{same-len-mid, putMid}
 use lib.ListN.{length}
 use Rattle.rules.specs.Images.{rowBytes}
 use Rattle.image.specs.Rows.{plane, OnlyPlane}
-use Rattle.plan.specs.PairLaws.{plane-size}
+use Rattle.pair.specs.PairLaws.{plane-size}
 use Rattle.plan.specs.StackLaws.{layer-room, lent-support, top-done}
 use native.Mathlib.Omega.{arith}
 use borrow.Author.Needs.{needs}

@@ -24,7 +24,7 @@ use Rattle.image.specs.Planes.{row-fits, scratch-op, scratch-seen}
 use Rattle.image.specs.Rows.{packed, Clean, Packs}
 use Rattle.image.specs.Scratch.{bitOf, Sizes, Scratch, seen}
 use Rattle.grow.specs.Fronts.{nearIn}
-use Rattle.plan.specs.Pairs.{pairRings, unexcused, pairSupport}
+use Rattle.pair.specs.Pairs.{pairRings, unexcused, pairSupport}
 
 -- A pair looks only at the pixels that exist -------------------------------------------------------------------------
 

@@ -1,13 +1,13 @@
 use Rattle.image.specs.Planes.{size-max, zero-ready, scratch-seen}
 use Rattle.image.specs.Rows.{packed}
-use Rattle.plan.specs.Pairs.{unexcused}
-use Rattle.plan.specs.PairLaws.{shadow-is, seeds-are, shadow-apart, seed-below, pair-rings, rest-is, packs-same}
+use Rattle.pair.specs.Pairs.{unexcused}
+use Rattle.pair.specs.PairLaws.{shadow-is, seeds-are, shadow-apart, seed-below, pair-rings, rest-is, packs-same}
 use native.Mathlib.Omega.{arith}
 use borrow.Author.Needs.{needs}
-use Rattle.plan.proofs.pair.hanging.Statement.{statement}
-use Rattle.plan.proofs.pair.hanging.Tie as tie
-use Rattle.plan.proofs.pair.hanging.Reads as reads
-use Rattle.plan.proofs.pair.hanging.Lts as lts
+use Rattle.pair.proofs.hanging.Statement.{statement}
+use Rattle.pair.proofs.hanging.Tie as tie
+use Rattle.pair.proofs.hanging.Reads as reads
+use Rattle.pair.proofs.hanging.Lts as lts
 use Rattle.grow.proofs.rings.Reads as rings-reads
 use Rattle.image.proofs.planes.both.Reads as both-reads
 use Rattle.image.proofs.planes.but_not.Reads as but-not-reads

@@ -7,7 +7,7 @@ ghost use Rattle.rules.specs.Images.{rowBytes};
 ghost use Rattle.image.specs.Loops.{Bits, butNot};
 ghost use Rattle.image.specs.Rows.{packed, Clean, Packs};
 ghost use Rattle.image.specs.Scratch.{bitOf, Sizes};
-ghost use Rattle.plan.specs.Pairs.{pairRings, unexcused, pairSupport};
+ghost use Rattle.pair.specs.Pairs.{pairRings, unexcused, pairSupport};
 
 // Whether the upper layer has a pixel with none of the lower one below it.
 fn shaded(low: &[u8], up: &[u8]) -> bool

@@ -4,13 +4,13 @@ use Prim.Native.Nat.{_≤_, _-_}
 use lib.ListN.{length}
 use Rattle.image.specs.Filling.{Filling, filling-none, filling-more, filling-all}
 use Rattle.image.specs.Scratch.{bitOf}
-use Rattle.plan.specs.PairLaws.{support-byte}
+use Rattle.pair.specs.PairLaws.{support-byte}
 use native.Mathlib.Omega.{arith}
 use borrow.Author.Needs.{needs}
-use Rattle.plan.proofs.pair.support.Statement.{statement}
-use Rattle.plan.proofs.pair.support.Tie as tie
-use Rattle.plan.proofs.pair.support.Reads as reads
-use Rattle.plan.proofs.pair.support.Lts as lts
+use Rattle.pair.proofs.support.Statement.{statement}
+use Rattle.pair.proofs.support.Tie as tie
+use Rattle.pair.proofs.support.Reads as reads
+use Rattle.pair.proofs.support.Lts as lts
 
 abbrev Inv-loop : tie.InvT-loop
 Inv-loop rest low above out₀ i₀ out i =

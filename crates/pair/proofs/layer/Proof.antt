@@ -3,16 +3,16 @@ use mathlib.Core.List.{List, _++_}
 use Prim.Native.Nat.{ℕ, _-_, _*_}
 use lib.ListN.{length, length-append, take, drop, replicate}
 use Rattle.image.specs.Rows.{packed, Packs}
-use Rattle.plan.specs.Pairs.{unexcused}
-use Rattle.plan.specs.PairLaws.{plane-size, prefix-back, fresh-pack, layer-packs}
+use Rattle.pair.specs.Pairs.{unexcused}
+use Rattle.pair.specs.PairLaws.{plane-size, prefix-back, fresh-pack, layer-packs}
 use native.Mathlib.Omega.{arith}
 use borrow.Author.Needs.{needs}
-use Rattle.plan.proofs.pair.layer.Statement.{statement}
-use Rattle.plan.proofs.pair.layer.Tie as tie
-use Rattle.plan.proofs.pair.layer.Reads as reads
-use Rattle.plan.proofs.pair.layer.Lts as lts
-use Rattle.plan.proofs.pair.rings.Reads as rings-reads
-use Rattle.plan.proofs.pair.support.Reads as support-reads
+use Rattle.pair.proofs.layer.Statement.{statement}
+use Rattle.pair.proofs.layer.Tie as tie
+use Rattle.pair.proofs.layer.Reads as reads
+use Rattle.pair.proofs.layer.Lts as lts
+use Rattle.pair.proofs.rings.Reads as rings-reads
+use Rattle.pair.proofs.support.Reads as support-reads
 
 -- src/pair.rt:110:21
 sub-size : tie.Need-sub-size

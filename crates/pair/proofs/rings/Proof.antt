@@ -1,14 +1,14 @@
-use Rattle.plan.specs.PairLaws.{bare-rings, bare-rest}
+use Rattle.pair.specs.PairLaws.{bare-rings, bare-rest}
 use mathlib.Core.Path.{_∙_}
 use native.Mathlib.Omega.{arith}
 use borrow.Author.Needs.{needs}
-use Rattle.plan.proofs.pair.rings.Statement.{statement}
-use Rattle.plan.proofs.pair.rings.Tie as tie
-use Rattle.plan.proofs.pair.rings.Reads as reads
-use Rattle.plan.proofs.pair.rings.Lts as lts
+use Rattle.pair.proofs.rings.Statement.{statement}
+use Rattle.pair.proofs.rings.Tie as tie
+use Rattle.pair.proofs.rings.Reads as reads
+use Rattle.pair.proofs.rings.Lts as lts
 use Rattle.grow.proofs.start.zero.Reads as zero-reads
-use Rattle.plan.proofs.pair.hanging.Reads as hanging-reads
-use Rattle.plan.proofs.pair.shaded.Reads as shaded-reads
+use Rattle.pair.proofs.hanging.Reads as hanging-reads
+use Rattle.pair.proofs.shaded.Reads as shaded-reads
 
 -- src/pair.rt:86:8
 shaded-requires : tie.Need-shaded-requires

@@ -3,13 +3,13 @@ use Prim.Native.Nat.{ℕ, _≤_, _-_}
 use lib.Bits.{bitAnd}
 use lib.ListN.{length, getD}
 use Rattle.image.specs.Bits.{or-none}
-use Rattle.plan.specs.PairLaws.{NoneHangs, none-hangs, none-more}
+use Rattle.pair.specs.PairLaws.{NoneHangs, none-hangs, none-more}
 use native.Mathlib.Omega.{arith}
 use borrow.Author.Needs.{needs}
-use Rattle.plan.proofs.pair.shaded.Statement.{statement}
-use Rattle.plan.proofs.pair.shaded.Tie as tie
-use Rattle.plan.proofs.pair.shaded.Reads as reads
-use Rattle.plan.proofs.pair.shaded.Lts as lts
+use Rattle.pair.proofs.shaded.Statement.{statement}
+use Rattle.pair.proofs.shaded.Tie as tie
+use Rattle.pair.proofs.shaded.Reads as reads
+use Rattle.pair.proofs.shaded.Lts as lts
 
 abbrev Inv-loop : tie.InvT-loop
 Inv-loop low up all₀ i₀ all i =
