@@ -2,18 +2,19 @@
 -- bound nothing need be measured, where every ring has one to lean on.
 use mathlib.Core.Path.{_≡_, refl, sym, _∙_}
 use mathlib.Core.List.{List}
-use mathlib.Core.Bool.{true, false, not, _&&_}
-use Prim.Native.Nat.{ℕ, zero, suc, _-_, _*_, _/_, _%_, _<_, _≤_}
-use native.Mathlib.Nat.{mul-le-mul}
+use mathlib.Core.Bool.{true, false, _&&_}
+use Prim.Native.Nat.{ℕ, zero, suc, _-_, _*_, _/_, _<_, _≤_}
 use native.Mathlib.Omega.{arith}
-use lib.Dec.{leb, ltb, eqb}
-use borrow.Author.Tests.{lt-ltb, le-ltb, le-leb, leb-true, ltb-true, ltb-false, eq-eqb}
+use lib.Dec.{ltb}
+use borrow.Author.Tests.{lt-ltb, le-ltb, ltb-true, ltb-false, eq-eqb}
+use Rattle.rules.specs.Demands.{Joined, start, onward}
 use Rattle.rules.specs.Images.{Plane}
-use Rattle.rules.specs.Reach.{square, apart, distance², root}
+use Rattle.rules.specs.Reach.{square, root}
 use Rattle.rules.specs.Planning.{shadow, near, seeds, reached, source, touch, touching, fits}
 use Rattle.laws.specs.Tests.{split, clash, and-l, and-r, and-in, not-out, some-in}
 use Rattle.laws.specs.Discs.{root-low, root-small}
 use Rattle.laws.specs.Growing.{seed-source, source-ring, ring-source}
+use Rattle.laws.specs.Waves.{near-itself}
 use Rattle.image.specs.Scratch.{Sizes, seen, Drawn}
 use Rattle.image.specs.Planes.{scratch-seen}
 use Rattle.places.specs.Search.{Least, badHere, badBy}
@@ -24,11 +25,6 @@ use Rattle.chains.specs.Eight.{leans}
 by-near-plane : (w h q : ℕ) (close low up : Plane) (ring : ℕ → ℕ) (p : ℕ) → close p ≡ near w h q low p → badBy w h close low up ring p ≡ badHere w h q low up ring p
 unfolding badBy badHere fits reached
 by-near-plane w h q close low up ring p e = rw e
-
--- one step further
-further : (a b c n : ℕ) → apart a b ≤ 1 → apart b c ≤ n → apart a c ≤ suc n
-unfolding apart
-further a b c n u v = omega arith
 
 module _ (w h q : ℕ) (close low up : Plane) (ring : ℕ → ℕ) (all : (p : ℕ) → p < h * w → Sound w h close low up ring p) where
   -- a seed carries no ring, for it lies in no shadow
@@ -54,31 +50,18 @@ module _ (w h q : ℕ) (close low up : Plane) (ring : ℕ → ℕ) (all : (p : �
       let z : ring p - 1 ≡ j = omega arith in
       rw z (some-in (h * w) (λ o. touch w p o && source (seeds low up) ring j o) o lo (and-in (touch w p o) _ t s))
 
-  beside : (p o : ℕ) → touch w p o ≡ true → (apart (p / w) (o / w) ≤ 1) × (apart (p % w) (o % w) ≤ 1)
-  unfolding touch
-  beside p o e =
-      let b : (leb (apart (p / w) (o / w)) 1 && leb (apart (p % w) (o % w)) 1) ≡ true = and-l _ (not (eqb p o)) e in
-      (leb-true _ 1 (and-l _ (leb (apart (p % w) (o % w)) 1) b), leb-true _ 1 (and-r (leb (apart (p / w) (o / w)) 1) _ b))
-
-  seed-within : (j p : ℕ) → p < h * w → ring p ≡ suc j → (o : ℕ) × (o < h * w) × (low o ≡ true) × (apart (p / w) (o / w) ≤ suc j) × (apart (p % w) (o % w) ≤ suc j)
-  unfolding seeds
-  seed-within zero p l e =
+  -- a chain of rings is a path over the shadow
+  path : (j p : ℕ) → p < h * w → ring p ≡ suc j → Joined (h * w) (touch w) (shadow low up) (seeds low up) (suc j) p
+  path zero p l e =
       let (o, lo, b, s) = leaning p zero l e in
-      let (r, c) = beside p o b in
-      (o, lo, and-l (low o) (up o) (seed-source (seeds low up) ring o s .0), r, c)
-  seed-within (suc j) p l e =
+      start (all p l .free (omega arith) .0) lo b (seed-source (seeds low up) ring o s .0)
+  path (suc j) p l e =
       let (x, lx, b, s) = leaning p (suc j) l e in
-      let (o, lo, f, r, c) = seed-within j x lx (ring-source (seeds low up) ring j x s) in
-      let (r₁, c₁) = beside p x b in
-      (o, lo, f, further (p / w) (x / w) (o / w) (suc j) r₁ r, further (p % w) (x % w) (o % w) (suc j) c₁ c)
+      onward (all p l .free (omega arith) .0) lx b (path j x lx (ring-source (seeds low up) ring j x s))
 
-  near-itself : (t : ℕ) → 2 * (t * t) ≤ q → (p j : ℕ) → p < h * w → ring p ≡ suc j → ring p ≤ t → near w h q low p ≡ true
-  unfolding near distance² square
-  near-itself t lq p j l e b =
-      let (o, lo, f, r, c) = seed-within j p l e in
-      let r′ : apart (p / w) (o / w) ≤ t = omega arith in
-      let c′ : apart (p % w) (o % w) ≤ t = omega arith in
-      some-in (h * w) (λ o. low o && leb (distance² w p o) q) o lo (and-in (low o) _ f (le-leb _ q (omega (arith, mul-le-mul r′ r′, mul-le-mul c′ c′))))
+  few-near : (t : ℕ) → 2 * (t * t) ≤ q → (p j : ℕ) → p < h * w → ring p ≡ suc j → ring p ≤ t → near w h q low p ≡ true
+  unfolding seeds
+  few-near t lq p j l e b = near-itself w h (shadow low up) (seeds low up) q t low lq (λ o lo s. and-l (low o) (up o) s) (omega arith) (path j p l e)
 
   -- so nothing is bad, where all rings are near
   near-good : ((p j : ℕ) → p < h * w → ring p ≡ suc j → near w h q low p ≡ true) → (p : ℕ) → p < h * w → badHere w h q low up ring p ≡ false
@@ -90,7 +73,7 @@ module _ (w h q : ℕ) (close low up : Plane) (ring : ℕ → ℕ) (all : (p : �
       go (suc j) e = rw (lt-ltb 0 (ring p) (omega arith), all p l .free (omega arith) .0, right p j l e, leans-on p j l e)
 
   pub sound-small : (t : ℕ) → 2 * (t * t) ≤ q → ((p : ℕ) → p < h * w → ring p ≤ t) → (p : ℕ) → p < h * w → badHere w h q low up ring p ≡ false
-  sound-small t lq small = near-good (λ p j l e. near-itself t lq p j l e (small p l))
+  sound-small t lq small = near-good (λ p j l e. few-near t lq p j l e (small p l))
 
   pub sound-near : ((p : ℕ) → p < h * w → close p ≡ near w h q low p) → (p : ℕ) → p < h * w → badHere w h q low up ring p ≡ false
   sound-near is = near-good (λ p j l e. sym (is p l) ∙ all p l .free (omega arith) .1)
