@@ -29,7 +29,7 @@ use Rattle.rules.specs.declared.ReadJob.the-variants.{Job as IsJob, Refused as 
 use Rattle.rules.specs.declared.CopiedRings.the-variants.{Copied, Refused as NotCopied}
 use Rattle.rules.specs.declared.WrittenJob.the-variants.{Length, Refused as NotWritten}
 use Rattle.laws.specs.Tests.{split, and-l, and-r}
-use Rattle.laws.specs.Refusals.{answer-refused}
+use Rattle.laws.specs.Refusals.{upTo, at-most, answer-refused}
 use Rattle.laws.specs.Limits.{Ranged, ranged, settable-out, stack-most}
 use Rattle.laws.specs.Demand1.{told-overlap, told-bad-ring, told-unheld}
 use Rattle.laws.specs.Judgements.{Verdict, accepted, overlapping, ring-is-bad, hanging, verdict-is}
@@ -116,24 +116,11 @@ stretch-back f at n ha hn =
     let b : long (stretch at n) ≡ n = ap long e ∙ digits-mod at {m = 4294967296} {r = n} hn in
     rw (a, b)
 
--- every number of a table is one of 01's
-unfoldable listed : List Case → Bool
-listed [] = true
-listed (c ∷ cs) = leb (c .number) 17 && listed cs
-
-at-most : (cs : List Case) → listed cs ≡ true → refusal cs ≤ 17
-unfolding listed
-at-most [] l = omega arith
-at-most (c ∷ cs) l =
-    split (c .applies)
-    (λ t. rw t (leb-true (c .number) 17 (and-l (leb (c .number) 17) (listed cs) l)))
-    (λ t. rw t (at-most cs (and-r (leb (c .number) 17) (listed cs) l)))
-
 -- Reach, plan, write, copy rings ------------------------------------------------------------------------------------------------
 
 pub reach-seen : (p t : Micrometres) → seesValue (packReached (reachAnswer p t)) ≡ saysReached (reachAnswer p t)
-unfolding reachAnswer reachCases listed
-reach-seen p t = go (refusal (reachCases p t)) refl (at-most (reachCases p t) refl)
+unfolding reachAnswer reachCases upTo
+reach-seen p t = go (refusal (reachCases p t)) refl (at-most 17 (reachCases p t) refl)
   where
     go : (x : ℕ) → refusal (reachCases p t) ≡ x → x ≤ 17 →
         seesValue (packReached (answer x (By (reachOf p t)) NotReached)) ≡ saysReached (answer x (By (reachOf p t)) NotReached)
@@ -141,8 +128,8 @@ reach-seen p t = go (refusal (reachCases p t)) refl (at-most (reachCases p t) re
     go (suc x) e h = number-back x h
 
 pub write-seen : (j : Job) (room : ℕ) → seesValue (packWritten (writeAnswer j room)) ≡ saysWritten (writeAnswer j room)
-unfolding writeAnswer writeRefusal writeCases settingCases reachCases listed
-write-seen j room = go (refusal (writeCases j room)) refl (at-most (writeCases j room) refl)
+unfolding writeAnswer writeRefusal writeCases settingCases reachCases upTo
+write-seen j room = go (refusal (writeCases j room)) refl (at-most 17 (writeCases j room) refl)
   where
     go : (x : ℕ) → refusal (writeCases j room) ≡ x → x ≤ 17 →
         seesValue (packWritten (answer x (Length (fileLength j)) NotWritten)) ≡ saysWritten (answer x (Length (fileLength j)) NotWritten)
@@ -158,16 +145,16 @@ unfolding seesNumber
 small-number k h = let a : number k ≡ k = omega arith in rw a
 
 pub plan-seen : (s : Settings) (part : List ℕ) (a b : ℕ) → seesNumber (packPlanned (planAnswer s part a b)) ≡ saysPlanned (planAnswer s part a b)
-unfolding planAnswer planRefusal planCases settingCases reachCases lengthCases listed
-plan-seen s part a b = go (refusal (planCases s part a b)) (at-most (planCases s part a b) refl)
+unfolding planAnswer planRefusal planCases settingCases reachCases lengthCases upTo
+plan-seen s part a b = go (refusal (planCases s part a b)) (at-most 17 (planCases s part a b) refl)
   where
     go : (x : ℕ) → x ≤ 17 → seesNumber (packPlanned (answer x Done NotPlanned)) ≡ saysPlanned (answer x Done NotPlanned)
     go zero h = small-number 0 h
     go (suc x) h = small-number (suc x) h
 
 pub copy-seen : (f : List ℕ) (room : ℕ) → seesNumber (packCopied (copyAnswer f room)) ≡ saysCopied (copyAnswer f room)
-unfolding copyAnswer copyCases readCases sectionCases settingCases reachCases listed
-copy-seen f room = go (refusal (copyCases f room)) (at-most (copyCases f room) refl)
+unfolding copyAnswer copyCases readCases sectionCases settingCases reachCases upTo
+copy-seen f room = go (refusal (copyCases f room)) (at-most 17 (copyCases f room) refl)
   where
     go : (x : ℕ) → x ≤ 17 → seesNumber (packCopied (answer x Copied NotCopied)) ≡ saysCopied (answer x Copied NotCopied)
     go zero h = small-number 0 h
@@ -192,21 +179,9 @@ no-place x h =
     let a : number (suc x) ≡ suc x = omega arith in
     rw (a, le-ltb 8 (suc x) h)
 
-unfoldable to-eight : List Case → Bool
-to-eight [] = true
-to-eight (c ∷ cs) = leb (c .number) 8 && to-eight cs
-
-at-most-eight : (cs : List Case) → to-eight cs ≡ true → refusal cs ≤ 8
-unfolding to-eight
-at-most-eight [] l = omega arith
-at-most-eight (c ∷ cs) l =
-    split (c .applies)
-    (λ t. rw t (leb-true (c .number) 8 (and-l (leb (c .number) 8) (to-eight cs) l)))
-    (λ t. rw t (at-most-eight cs (and-r (leb (c .number) 8) (to-eight cs) l)))
-
 eight : (s : Settings) (part sup : List ℕ) (k : ℕ) → refusal (judgeCases s part sup k) ≤ 8
-unfolding judgeCases settingCases reachCases lengthCases to-eight
-eight s part sup k = at-most-eight (judgeCases s part sup k) refl
+unfolding judgeCases settingCases reachCases lengthCases upTo
+eight s part sup k = at-most 8 (judgeCases s part sup k) refl
 
 module _ (s : Settings) (part sup l : List ℕ) where
   abbrev P : Stack
@@ -336,3 +311,16 @@ module _ (f : List ℕ) where
           ≡ answer x (take (storedIn f * rowBytes (settingsIn f .w)) (drop (partEnd (settingsIn f) + 4) f)) (λ k. [])
       go zero e = stored (eqb (storedIn f) 0) refl e
       go (suc x) e = nothing-seen
+
+-- Ends of the ranges, computed: the last place of the largest stack and layer 256, the longest job, the largest reach, a number alone
+pub ends-seen :
+    seesPlace (packJudged (RefusedAt 11 (record { layer = 511; row = 255; column = 255 })))
+    ∷ seesPlace (packJudged (RefusedAt 9 (record { layer = 256; row = 0; column = 0 })))
+    ∷ seesPlace (packJudged (NotJudged 8))
+    ∷ seesValue (packWritten (Length 75366426))
+    ∷ seesValue (packReached (By (record { 0 = 32 })))
+    ∷ seesNumber (packPlanned (NotPlanned 7))
+    ∷ []
+    ≡ (11 ∷ 511 ∷ 255 ∷ 255 ∷ []) ∷ (9 ∷ 256 ∷ 0 ∷ 0 ∷ []) ∷ (8 ∷ []) ∷ (0 ∷ 75366426 ∷ []) ∷ (0 ∷ 32 ∷ []) ∷ (7 ∷ []) ∷ []
+unfolding seesPlace seesValue seesNumber
+ends-seen = refl

@@ -4,38 +4,32 @@ ghost use mathlib.Core.Bool.{true};
 ghost use Prim.Native.Nat.{ℕ, _+_, _-_, _*_, _<_, _≤_, _%_};
 ghost use lib.ListN.{length, getD};
 ghost use Rattle.places.specs.Search.{Sized};
-ghost use Rattle.places.specs.Sound.{Ones, Step, Among, Good};
+ghost use Rattle.places.specs.Sound.{Ones, Step, Good};
 
-// Whether pixel m, the one `left` before it or the one `right` after it has ring v.
-fn among(rings: &[u16], m: usize, left: usize, right: usize, v: u16) -> bool
-    requires { ⌜ (left ≤ m) × (m + right < length (now rings)) ⌝ }
-    ensures { λ b. ⌜ (b ≡ true → Among (now (rings .entry)) (m - left) (m + right) v) ⌝ }
+// Row or column i of the three about x, of n in all; x stands in for one that the image lacks.
+fn beside(x: usize, i: usize, n: usize) -> usize
+    requires { ⌜ (x < n) × ((i < 3) × (n ≤ 256)) ⌝ }
+    ensures { λ y. ⌜ (y < n) × ((x ≤ y + 1) × (y ≤ x + 1)) ⌝ }
 {
-    if rings[m - left] == v {
-        return true;
-    }
-    if rings[m] == v {
-        return true;
-    }
-    rings[m + right] == v
+    places::bits::smaller(places::bits::less(x + i, 1), n - 1)
 }
 
-// Whether a neighbour has ring v, which the pixel itself has not. Rows and columns that the image lacks are stood in for by its own.
+// Whether a neighbour has ring v, which the pixel itself has not.
 fn steps(rings: &[u16], w: usize, h: usize, r: usize, c: usize, v: u16) -> bool
     requires { ⌜ (Sized w h × (length (now rings) ≡ h * w)) × ((r < h) × (c < w)) ⌝ }
     ensures { λ b. ⌜ (b ≡ true → Step w h (now (rings .entry)) r c v) ⌝ }
 {
-    let left = places::bits::smaller(c, 1);
-    let right = places::bits::smaller(w - 1 - c, 1);
-    let above = places::bits::less(r, 1);
-    let below = places::bits::smaller(r + 1, h - 1);
-    if among(rings, r * w + c, left, right, v) {
-        return true;
+    let mut found = false;
+    'rows: for i in 0..3 {
+        let start = beside(r, i, h) * w;
+        for j in 0..3 {
+            if rings[start + beside(c, j, w)] == v {
+                found = true;
+                break 'rows;
+            }
+        }
     }
-    if among(rings, above * w + c, left, right, v) {
-        return true;
-    }
-    among(rings, below * w + c, left, right, v)
+    found
 }
 
 // Whether the pixel may carry its ring k.

@@ -17,14 +17,11 @@ use sections::reading::settings_in;
 use sections::reading::stored_in;
 use sections::reading::support_in;
 use sections::sizes::job_end;
-ghost use mathlib.Core.Path.{_≡_};
-ghost use lib.ListN.{length};
-ghost use Rattle.rules.specs.Jobs.{Job};
-ghost use Rattle.rules.specs.Calls.{readAnswer, partAnswer, supportAnswer, copyAnswer, copyRings, writeAnswer, writeTo};
+ghost use Rattle.rules.specs.Outcomes.{Reads, HandsPart, HandsSupport, Copies, Writes};
 
 // Reads a job file: where its sections stand, or the refusal.
 pub fn read(file: &[u8]) -> ReadJob
-    ensures { λ r. ⌜ r ≡ readAnswer (now (file .entry)) ⌝ }
+    ensures { λ r. ⌜ Reads (now (file .entry)) r ⌝ }
 {
     let k = read_refusal(file);
     if k != 0 {
@@ -35,7 +32,7 @@ pub fn read(file: &[u8]) -> ReadJob
 
 // The part's stretch of a job file, empty where the job is refused.
 pub fn part(file: &[u8]) -> &[u8]
-    ensures { λ r. ⌜ now r ≡ partAnswer (now (file .entry)) ⌝ }
+    ensures { λ r. ⌜ HandsPart (now (file .entry)) (now r) ⌝ }
 {
     if read_refusal(file) != 0 { // a refused job has no part
         return &file[..0];
@@ -46,7 +43,7 @@ pub fn part(file: &[u8]) -> &[u8]
 
 // The support's stretch of a job file, empty where none is stored or the job is refused.
 pub fn support(file: &[u8]) -> &[u8]
-    ensures { λ r. ⌜ now r ≡ supportAnswer (now (file .entry)) ⌝ }
+    ensures { λ r. ⌜ HandsSupport (now (file .entry)) (now r) ⌝ }
 {
     if read_refusal(file) != 0 { // nor support
         return &file[..0];
@@ -58,7 +55,7 @@ pub fn support(file: &[u8]) -> &[u8]
 
 // Copies the rings of a job file, where `rings` has exactly their number.
 pub fn copy_rings(file: &[u8], rings: &mut [u16]) -> CopiedRings
-    ensures { λ r. ⌜ (r ≡ copyAnswer (now (file .entry)) (length (now (rings .entry)))) × (now (rings .exit) ≡ copyRings (now (file .entry)) (now (rings .entry))) ⌝ }
+    ensures { λ r. ⌜ Copies (now (file .entry)) (now (rings .entry)) r (now (rings .exit)) ⌝ }
 {
     let k = copy_refusal(file, rings.len());
     if k != 0 {
@@ -72,8 +69,7 @@ pub fn copy_rings(file: &[u8], rings: &mut [u16]) -> CopiedRings
 
 // Writes a job to the front of `out`, and answers its length.
 pub fn write(s: Settings, part: &[u8], support: &[u8], rings: &[u16], out: &mut [u8]) -> WrittenJob
-    ensures { λ r. ⌜ (let j : Job = record { settings = s; part = now (part .entry); support = now (support .entry); rings = now (rings .entry) } in
-        (r ≡ writeAnswer j (length (now (out .entry)))) × (now (out .exit) ≡ writeTo j (now (out .entry)))) ⌝ }
+    ensures { λ r. ⌜ Writes (record { settings = s; part = now (part .entry); support = now (support .entry); rings = now (rings .entry) }) (now (out .entry)) r (now (out .exit)) ⌝ }
 {
     let k = write_refusal(s, part, support, rings, out.len());
     if k != 0 {

@@ -13,6 +13,7 @@ use Rattle.rules.specs.Images.{Stack, rowBytes, pixel, rowsOf, stackBytes, ring
 use Rattle.rules.specs.Reach.{square, boundOf, reachOf}
 use Rattle.rules.specs.Judging.{overlap, badRing, unheld, firstIn, placeOf, tell, verdict, verdictOf}
 use Rattle.rules.specs.Calls.{reachCases, settingCases, lengthCases, judgeCases, judgeAnswer}
+use Rattle.rules.specs.Outcomes.{Judges}
 use Rattle.rules.specs.declared.Settings.{Settings}
 use Rattle.rules.specs.declared.Pixels.{Pixels}
 use Rattle.rules.specs.declared.Place.{Place}
@@ -100,13 +101,13 @@ module _ (w h n : ℕ) (q : ℕ → ℕ) (part sup rings : List ℕ) (o : ℕ) (
 -- The call ----------------------------------------------------------------------------------------------------------------
 
 module _ (s : Settings) (part sup rings : List ℕ) (a : ℕ) (ea : a ≡ refusal (judgeCases s part sup (length rings))) where
-  pub judged-refused : (a ≡ 0 → ⊥) → Refused a ≡ judgeAnswer s part sup rings
+  pub judged-refused : (a ≡ 0 → ⊥) → Judges s part sup rings (Refused a)
   unfolding judgeAnswer
-  judged-refused ne = rw (← ea) (sym (answer-refused a _ Refused ne))
+  judged-refused ne = record { answer = rw (← ea) (sym (answer-refused a _ Refused ne)) }
 
-  pub judged-by : a ≡ 0 → (j : Judged) → j ≡ verdictOf (s .w) (s .h) (s .n) (boundOf s) part sup rings → j ≡ judgeAnswer s part sup rings
+  pub judged-by : a ≡ 0 → (j : Judged) → j ≡ verdictOf (s .w) (s .h) (s .n) (boundOf s) part sup rings → Judges s part sup rings j
   unfolding judgeAnswer
-  judged-by z j e = e ∙ rw (← ea) (sym (answer-fine a _ Refused z))
+  judged-by z j e = record { answer = e ∙ rw (← ea) (sym (answer-fine a _ Refused z)) }
 
 -- What the sizes of a job say -----------------------------------------------------------------------------------------------
 

@@ -11,7 +11,7 @@ ghost use lib.ListN.{length};
 ghost use Rattle.rules.specs.Images.{pixel, rowsOf, stackBytes, paddingSet, ringsIn, ringAt};
 ghost use Rattle.rules.specs.Reach.{boundOf};
 ghost use Rattle.rules.specs.Judging.{badRing, placeOf, verdictOf};
-ghost use Rattle.rules.specs.Calls.{judgeAnswer};
+ghost use Rattle.rules.specs.Outcomes.{Judges};
 ghost use Rattle.laws.specs.Limits.{Ranged};
 ghost use Rattle.places.specs.Search.{Least, flat, Sized};
 
@@ -65,7 +65,7 @@ fn verdict(s: Settings, part: &[u8], support: &[u8], rings: &[u16]) -> Judged
 
 // Whether the support holds the part: accepted, or the lowest refusal, with its first place where it has one.
 pub fn judge(s: Settings, part: &[u8], support: &[u8], rings: &[u16]) -> Judged
-    ensures { λ r. ⌜ r ≡ judgeAnswer s (now (part .entry)) (now (support .entry)) (now (rings .entry)) ⌝ }
+    ensures { λ r. ⌜ Judges s (now (part .entry)) (now (support .entry)) (now (rings .entry)) r ⌝ }
 {
     let a = crate::refusals::refused(s, part, support, rings);
     if a != 0 {

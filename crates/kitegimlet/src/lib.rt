@@ -8,16 +8,13 @@ use limits::reach;
 use plan::plan;
 use rules::Micrometres;
 use rules::ReadJob;
-ghost use mathlib.Core.Path.{_≡_};
-ghost use Prim.Native.Nat.{_-_};
-ghost use lib.ListN.{length};
-ghost use Rattle.rules.specs.Calls.{reachAnswer, planAnswer, planSupport, planRings, judgeAnswer, readRefusal, copyAnswer, copyRings, writeAnswer, writeTo};
-ghost use Rattle.answers.specs.Packed.{um, settingsOf, jobOf, packReached, packPlanned, packJudged, packCopied, packWritten, toldIn, partStretch, supportStretch};
+ghost use Rattle.answers.specs.Packed.{settingsOf, jobOf};
+ghost use Rattle.kitegimlet.specs.Outcomes.{KgReaches, KgPlans, KgJudges, KgReads, KgCopies, KgWrites, KgHandsPart, KgHandsSupport};
 
 // The reach of an overhang.
 #[no_mangle]
 pub extern "C" fn kg_reach(pitch: u32, overhang: u32) -> usize
-    ensures { λ r. ⌜ r ≡ packReached (reachAnswer (um pitch) (um overhang)) ⌝ }
+    ensures { λ r. ⌜ KgReaches pitch overhang r ⌝ }
 {
     answers::pack_reached(reach(Micrometres(pitch), Micrometres(overhang)))
 }
@@ -34,9 +31,7 @@ pub extern "C" fn kg_plan(
     support: &mut [u8],
     rings: &mut [u16],
 ) -> usize
-    ensures { λ r. ⌜ r ≡ packPlanned (planAnswer (settingsOf w h n pitch overhang) (now (part .entry)) (length (now (support .entry))) (length (now (rings .entry)))) ⌝ }
-    ensures { λ _. ⌜ now (support .exit) ≡ planSupport (settingsOf w h n pitch overhang) (now (part .entry)) (now (support .entry)) (now (rings .entry)) ⌝ }
-    ensures { λ _. ⌜ now (rings .exit) ≡ planRings (settingsOf w h n pitch overhang) (now (part .entry)) (now (support .entry)) (now (rings .entry)) ⌝ }
+    ensures { λ r. ⌜ KgPlans (settingsOf w h n pitch overhang) (now (part .entry)) (now (support .entry)) (now (rings .entry)) r (now (support .exit)) (now (rings .exit)) ⌝ }
 {
     let s = answers::settings(w, h, n, pitch, overhang);
     answers::pack_planned(plan(s, part, support, rings))
@@ -54,7 +49,7 @@ pub extern "C" fn kg_check(
     support: &[u8],
     rings: &[u16],
 ) -> usize
-    ensures { λ r. ⌜ r ≡ packJudged (judgeAnswer (settingsOf w h n pitch overhang) (now (part .entry)) (now (support .entry)) (now (rings .entry))) ⌝ }
+    ensures { λ r. ⌜ KgJudges (settingsOf w h n pitch overhang) (now (part .entry)) (now (support .entry)) (now (rings .entry)) r ⌝ }
 {
     let s = answers::settings(w, h, n, pitch, overhang);
     answers::pack_judged(judge(s, part, support, rings))
@@ -63,7 +58,7 @@ pub extern "C" fn kg_check(
 // Reads a job file.
 #[no_mangle]
 pub extern "C" fn kg_read(file: &[u8], room: &mut [usize]) -> usize
-    ensures { λ r. ⌜ (r ≡ readRefusal (now (file .entry))) × (now (room .exit) ≡ toldIn (now (file .entry)) (now (room .entry))) ⌝ }
+    ensures { λ r. ⌜ KgReads (now (file .entry)) (now (room .entry)) r (now (room .exit)) ⌝ }
 {
     match read(file) {
         ReadJob::Job(l) => {
@@ -77,7 +72,7 @@ pub extern "C" fn kg_read(file: &[u8], room: &mut [usize]) -> usize
 // Copies the rings out of a job file.
 #[no_mangle]
 pub extern "C" fn kg_copy_rings(file: &[u8], rings: &mut [u16]) -> usize
-    ensures { λ r. ⌜ (r ≡ packCopied (copyAnswer (now (file .entry)) (length (now (rings .entry))))) × (now (rings .exit) ≡ copyRings (now (file .entry)) (now (rings .entry))) ⌝ }
+    ensures { λ r. ⌜ KgCopies (now (file .entry)) (now (rings .entry)) r (now (rings .exit)) ⌝ }
 {
     answers::pack_copied(copy_rings(file, rings))
 }
@@ -95,7 +90,7 @@ pub extern "C" fn kg_write(
     rings: &[u16],
     out: &mut [u8],
 ) -> usize
-    ensures { λ r. ⌜ (r ≡ packWritten (writeAnswer (jobOf (settingsOf w h n pitch overhang) (now (part .entry)) (now (support .entry)) (now (rings .entry))) (length (now (out .entry))))) × (now (out .exit) ≡ writeTo (jobOf (settingsOf w h n pitch overhang) (now (part .entry)) (now (support .entry)) (now (rings .entry))) (now (out .entry))) ⌝ }
+    ensures { λ r. ⌜ KgWrites (jobOf (settingsOf w h n pitch overhang) (now (part .entry)) (now (support .entry)) (now (rings .entry))) (now (out .entry)) r (now (out .exit)) ⌝ }
 {
     let s = answers::settings(w, h, n, pitch, overhang);
     answers::pack_written(write(s, part, support, rings, out))
@@ -104,7 +99,7 @@ pub extern "C" fn kg_write(
 // The part's stretch of a job file.
 #[no_mangle]
 pub extern "C" fn kg_part(file: &[u8]) -> usize
-    ensures { λ r. ⌜ r ≡ partStretch (now (file .entry)) ⌝ }
+    ensures { λ r. ⌜ KgHandsPart (now (file .entry)) r ⌝ }
 {
     match read(file) {
         ReadJob::Job(l) => answers::part_stretch(l),
@@ -115,7 +110,7 @@ pub extern "C" fn kg_part(file: &[u8]) -> usize
 // The support's stretch of a job file.
 #[no_mangle]
 pub extern "C" fn kg_support(file: &[u8]) -> usize
-    ensures { λ r. ⌜ r ≡ supportStretch (now (file .entry)) ⌝ }
+    ensures { λ r. ⌜ KgHandsSupport (now (file .entry)) r ⌝ }
 {
     match read(file) {
         ReadJob::Job(l) => answers::support_stretch(l),

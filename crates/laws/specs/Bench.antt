@@ -78,6 +78,11 @@ pub corner-joins : run (plan 2 2 2 200 (0x80 ∷ 0x00 ∷ 0x80 ∷ 0x40 ∷ []))
 unfolding bit some each joinedUp first within sized rowBytes bitAt pixel rowsOf stackBytes paddingSet byteOf bytesOf ringsIn ringAt settable reachOf square boundOf apart distance² shadow near seeds reached touch source touching fits grow grown ringPlane rings excused supportUnder topOf planned empty plannedRings plannedBytes overlap badRing unheld firstIn placeOf tell verdict verdictOf reachCases settingCases lengthCases planCases planRefusal planAnswer planSupport planRings judgeCases judgeAnswer settings lent run
 corner-joins = refl
 
+-- "Reach R = t/p rounded down", and then squared: piece h at t 150 still has its corner supported
+pub corner-too-far : run (plan 2 2 2 150 (0x80 ∷ 0x00 ∷ 0xC0 ∷ 0xC0 ∷ [])) ≡ plans (0 ∷ []) (0x00 ∷ 0x40 ∷ 0x00 ∷ 0x00 ∷ []) (0 ∷ 1 ∷ 1 ∷ 0 ∷ [])
+unfolding bit some each joinedUp first within sized rowBytes bitAt pixel rowsOf stackBytes paddingSet byteOf bytesOf ringsIn ringAt settable reachOf square boundOf apart distance² shadow near seeds reached touch source touching fits grow grown ringPlane rings excused supportUnder topOf planned empty plannedRings plannedBytes overlap badRing unheld firstIn placeOf tell verdict verdictOf reachCases settingCases lengthCases planCases planRefusal planAnswer planSupport planRings judgeCases judgeAnswer settings lent run
+corner-too-far = refl
+
 -- Limits ---------------------------------------------------------------------------------------------------------------
 
 pub reaches : ℕ → ℕ → List ℕ

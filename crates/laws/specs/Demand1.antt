@@ -2,7 +2,7 @@
 -- no condition holds. Numbers 9, 10 and 11 are told exactly at their first place.
 use mathlib.Core.Path.{_≡_, refl, sym, ap, subst, _∙_}
 use mathlib.Core.Logic.{_⊎_, inl, inr, ⊎-elim, _↔_}
-use mathlib.Core.Bool.{Bool, true, false, not, _&&_, _||_}
+use mathlib.Core.Bool.{Bool, true, false, not, _&&_, _||_, cond}
 use mathlib.Core.List.{List, [], _∷_, _++_}
 use Prim.Native.Nat.{ℕ, zero, suc, _+_, _-_, _*_, _/_, _%_, _≤_, _<_}
 use native.Mathlib.Nat.{div-add-mod', mul-assoc, add-mul}
@@ -15,8 +15,8 @@ use Rattle.rules.specs.Tools.{Case, refusal, answer, Found, nothing, found, fir
 use Rattle.rules.specs.Images.{Stack, Rings}
 use Rattle.rules.specs.Reach.{reachOf, boundOf}
 use Rattle.rules.specs.Judging.{overlap, badRing, unheld, firstIn, placeOf, tell, verdict, verdictOf}
-use Rattle.rules.specs.Jobs.{Job, settingsIn, partIn, layoutOf, fileLength}
-use Rattle.rules.specs.Calls.{saysReached, saysPlanned, saysJudged, saysRead, saysCopied, saysWritten, reachCases, reachAnswer, planCases, planRefusal, planAnswer, judgeCases, judgeAnswer, readCases, readRefusal, readAnswer, copyCases, copyAnswer, writeCases, writeRefusal, writeAnswer}
+use Rattle.rules.specs.Jobs.{Job, headEnd, partEnd, supportEnd, settingsIn, storedIn, partIn, layoutOf, fileLength}
+use Rattle.rules.specs.Calls.{saysReached, saysPlanned, saysJudged, saysSettings, saysRead, saysCopied, saysWritten, reachCases, reachAnswer, planCases, planRefusal, planAnswer, judgeCases, judgeAnswer, readCases, readRefusal, readAnswer, copyCases, copyAnswer, writeCases, writeRefusal, writeAnswer}
 use Rattle.rules.specs.Report.{reportCases, reportOf, planLines, refusedLine}
 use Rattle.rules.specs.Demands.{Given, NoneGiven, Earlier, sooner-layer, sooner-row, sooner-column, FirstAt}
 use Rattle.rules.specs.declared.Micrometres.{Micrometres}
@@ -76,9 +76,11 @@ pub reach-answers : (p t : Micrometres) → refusal (reachCases p t) ≡ 0 → s
 unfolding reachAnswer
 reach-answers p t e = ap saysReached (answer-fine (refusal (reachCases p t)) (By (reachOf p t)) NotReached e)
 
-pub read-answers : (f : List ℕ) → readRefusal f ≡ 0 → readAnswer f ≡ IsJob (layoutOf f)
-unfolding readAnswer
-read-answers f e = answer-fine (readRefusal f) (IsJob (layoutOf f)) NotRead e
+-- "the settings, the presence of support and, for each section, the offset of the first byte after its count"
+pub read-answers : (f : List ℕ) → readRefusal f ≡ 0 →
+    saysRead (readAnswer f) ≡ 0 ∷ saysSettings (settingsIn f) ++ cond (not (eqb (storedIn f) 0)) 1 0 ∷ 4 ∷ 18 ∷ (partEnd (settingsIn f) + 4) ∷ (supportEnd (settingsIn f) (storedIn f) + 4) ∷ []
+unfolding readAnswer layoutOf headEnd
+read-answers f e = ap saysRead (answer-fine (readRefusal f) (IsJob (layoutOf f)) NotRead e)
 
 -- what an answer of reading says of the file
 pub job-read : (f : List ℕ) (r : ReadJob) (l : Layout) → r ≡ readAnswer f → r ≡ IsJob l → (readRefusal f ≡ 0) × (l ≡ layoutOf f)

@@ -1,9 +1,9 @@
 -- Demand 2 of the planning call: what it leaves in the lent memory, that its support is the chapter's region subtraction, and that
 -- its ring numbers are the fewest steps from a seed. Its other half, on job files, is in RoundTrips.
-use mathlib.Core.Path.{_≡_, refl, sym, _∙_}
+use mathlib.Core.Path.{_≡_, refl, sym, ap, _∙_}
 use mathlib.Core.Logic.{_↔_}
 use mathlib.Core.Bool.{true, false}
-use mathlib.Core.List.{List}
+use mathlib.Core.List.{List, [], _∷_}
 use Prim.Native.Nat.{ℕ, zero, suc, _-_, _*_, _≤_, _<_}
 use native.Mathlib.Omega.{arith}
 use lib.ListN.{length}
@@ -11,7 +11,7 @@ use Rattle.rules.specs.Tools.{refusal, answer}
 use Rattle.rules.specs.Images.{Plane, pixel, ringAt}
 use Rattle.rules.specs.Reach.{boundOf}
 use Rattle.rules.specs.Planning.{shadow, near, seeds, reached, touch, rings, planned, empty, plannedRings, plannedBytes, swallowed, growingSwallow, regionSubtraction}
-use Rattle.rules.specs.Calls.{planCases, planRefusal, planAnswer, planSupport, planRings}
+use Rattle.rules.specs.Calls.{saysPlanned, planCases, planRefusal, planAnswer, planSupport, planRings}
 use Rattle.rules.specs.Demands.{JoinedBy, Excused, Words}
 use Rattle.rules.specs.declared.Settings.{Settings}
 use Rattle.rules.specs.declared.Planned.the-variants.{Done, Refused}
@@ -28,17 +28,17 @@ module _ (s : Settings) (part sup ring : List ℕ) where
 
   -- not refused: the planned support and rings, whatever the lent memory held
   pub plan-fills : r ≡ 0 →
-      (planAnswer s part (length sup) (length ring) ≡ Done)
+      (saysPlanned (planAnswer s part (length sup) (length ring)) ≡ 0 ∷ [])
       × (planSupport s part sup ring ≡ plannedBytes (s .w) (s .h) (s .n) (boundOf s) part)
       × (planRings s part sup ring ≡ plannedRings (s .w) (s .h) (s .n) (boundOf s) part)
   unfolding planAnswer planSupport planRings
-  plan-fills e = (answer-fine r Done Refused e, answer-fine r _ (λ k. sup) e, answer-fine r _ (λ k. ring) e)
+  plan-fills e = (ap saysPlanned (answer-fine r Done Refused e), answer-fine r _ (λ k. sup) e, answer-fine r _ (λ k. ring) e)
 
   -- refused: the number, and all lent memory as it was found
   pub plan-keeps : (r ≡ 0 → ⊥) →
-      (planAnswer s part (length sup) (length ring) ≡ Refused r) × (planSupport s part sup ring ≡ sup) × (planRings s part sup ring ≡ ring)
+      (saysPlanned (planAnswer s part (length sup) (length ring)) ≡ r ∷ []) × (planSupport s part sup ring ≡ sup) × (planRings s part sup ring ≡ ring)
   unfolding planAnswer planSupport planRings
-  plan-keeps n = (answer-refused r Done Refused n, answer-refused r _ (λ k. sup) n, answer-refused r _ (λ k. ring) n)
+  plan-keeps n = (ap saysPlanned (answer-refused r Done Refused n), answer-refused r _ (λ k. sup) n, answer-refused r _ (λ k. ring) n)
 
 -- The chapter's rules ------------------------------------------------------------------------------------------------------
 

@@ -16,15 +16,18 @@ use Rattle.rules.specs.Images.{Stack, within, sized, rowBytes, pixel, rowsOf, s
 use Rattle.rules.specs.Reach.{boundOf}
 use Rattle.rules.specs.Planning.{rings, plannedRings, plannedBytes}
 use Rattle.rules.specs.Judging.{verdict, verdictOf}
-use Rattle.rules.specs.Calls.{reachCases, settingCases, lengthCases, planCases, planRefusal, planAnswer, planSupport, planRings, judgeCases, judgeAnswer}
+use Rattle.rules.specs.Calls.{saysPlanned, saysJudged, reachCases, settingCases, lengthCases, planCases, planRefusal, planAnswer, planSupport, planRings, judgeCases, judgeAnswer}
+use Rattle.rules.specs.Outcomes.{Plans, Judges}
 use Rattle.rules.specs.Demands.{Sound, Words}
 use Rattle.rules.specs.declared.Settings.{Settings}
+use Rattle.rules.specs.declared.Planned.{Planned}
 use Rattle.rules.specs.declared.Planned.the-variants.{Done, Refused as NotPlanned}
 use Rattle.rules.specs.declared.Judged.{Judged}
-use Rattle.rules.specs.declared.Judged.the-variants.{Accepted, Refused}
+use Rattle.rules.specs.declared.Judged.the-variants.{Accepted}
 use Rattle.laws.specs.Tests.{split, clash, and-l, and-r, not-out, some-out, getD-each, length-each}
 use Rattle.laws.specs.Places.{accepted-in}
-use Rattle.laws.specs.Refusals.{numbered, orElse, else-both, refusal-append, case-out, answer-fine}
+use Rattle.laws.specs.Refusals.{numbered, orElse, else-both, refusal-append, case-out}
+use Rattle.laws.specs.Judgements.{says-accepted}
 use Rattle.laws.specs.Soundness.{ringsOf, accepted-iff, sound-accepted, rings-length}
 use Rattle.laws.specs.PixelBytes.{plannedBytes-accepted, plannedBytes-least}
 use Rattle.laws.specs.RingsFit.{rings-fit}
@@ -151,23 +154,18 @@ small s e = let r = ranged s e in (r .w-low, area-most (s .w) (s .h) (r .w-high)
 accepted-with : (w h n : ℕ) (q : ℕ → ℕ) (part sup : Stack) → Sound w h n q part sup → verdict w h n q part sup (ringAt w h (rings w h n q part)) ≡ Accepted
 accepted-with w h n q part sup s = accepted-in w h n q part sup (ringsOf w h n q part) (sound-accepted w h n q part sup s)
 
--- the call accepts exactly when nothing is refused and the verdict is to accept
-answer-accepted : (r : ℕ) (v : Judged) → answer r v Refused ≡ Accepted → (r ≡ 0) × (v ≡ Accepted)
-answer-accepted zero v e = (refl, e)
-answer-accepted (suc r) v e = (cc, cc)
-
 module _ (s : Settings) (part sup : List ℕ) where
-  pub accepted-is : (l : List ℕ) → (judgeAnswer s part sup l ≡ Accepted) ↔
+  -- 0 is said exactly when nothing is refused and the verdict is to accept
+  accepted-is : (l : List ℕ) → (saysJudged (judgeAnswer s part sup l) ≡ 0 ∷ []) ↔
       (Fine s part sup (length l) × (verdictOf (s .w) (s .h) (s .n) (boundOf s) part sup l ≡ Accepted))
-  unfolding judgeAnswer
   accepted-is l = (
-    (λ e. let (r, v) = answer-accepted (refusal (judgeCases s part sup (length l))) _ e in (fine-out s part sup (length l) r, v)),
-    (λ (f, v). answer-fine (refusal (judgeCases s part sup (length l))) _ Refused (fine-in s part sup (length l) f) ∙ v),
+    (λ e. let (r, v) = says-accepted s part sup l .0 e in (fine-out s part sup (length l) r, v)),
+    (λ (f, v). says-accepted s part sup l .1 (fine-in s part sup (length l) f, v)),
   )
 
   -- "Some ring numbers, in the right count, make the checker accept exactly when" the stack is sound, for stacks that pass the
   -- other checks; and for no others do any
-  pub accepts-exactly : ((l : List ℕ) × Words l × (judgeAnswer s part sup l ≡ Accepted))
+  pub accepts-exactly : ((l : List ℕ) × Words l × (saysJudged (judgeAnswer s part sup l) ≡ 0 ∷ []))
       ↔ ((stackRefusal s part sup ≡ 0) × Sound (s .w) (s .h) (s .n) (boundOf s) (pixel (s .w) (s .h) part) (pixel (s .w) (s .h) sup))
   unfolding verdictOf ringsIn
   accepts-exactly = (
@@ -183,7 +181,7 @@ module _ (s : Settings) (part sup : List ℕ) where
 
 -- "The planner's own result is accepted"
 pub plan-accepted : (s : Settings) (part : List ℕ) (a b : ℕ) → planRefusal s part a b ≡ 0 →
-    judgeAnswer s part (plannedBytes (s .w) (s .h) (s .n) (boundOf s) part) (plannedRings (s .w) (s .h) (s .n) (boundOf s) part) ≡ Accepted
+    saysJudged (judgeAnswer s part (plannedBytes (s .w) (s .h) (s .n) (boundOf s) part) (plannedRings (s .w) (s .h) (s .n) (boundOf s) part)) ≡ 0 ∷ []
 unfolding rowsOf stackBytes ringsIn
 plan-accepted s part a b e =
     let (z, l, f) = plan-out s part a b e in
@@ -199,18 +197,19 @@ plan-accepted s part a b e =
       plannedBytes-accepted (s .w) (s .h) (s .n) (boundOf s) part,
     )
 
--- the same of the call: what it leaves in the lent memory where it is done, whatever that held
-pub plan-left-accepted : (s : Settings) (part sup ring : List ℕ) → planAnswer s part (length sup) (length ring) ≡ Done →
-    judgeAnswer s part (planSupport s part sup ring) (planRings s part sup ring) ≡ Accepted
+-- the same of the two calls by their contracts: where planning says 0, whatever the lent memory held, checking what it left says 0
+pub plan-left-accepted : (s : Settings) (part sup ring : List ℕ) (r : Planned) (sup′ ring′ : List ℕ) (v : Judged) →
+    Plans s part sup ring r sup′ ring′ → saysPlanned r ≡ 0 ∷ [] → Judges s part sup′ ring′ v → saysJudged v ≡ 0 ∷ []
 unfolding planAnswer planSupport planRings
-plan-left-accepted s part sup ring e = go (planRefusal s part (length sup) (length ring)) refl e
+plan-left-accepted s part sup ring r sup′ ring′ v x e y =
+    rw (y .answer, x .support, x .rings) (go (planRefusal s part (length sup) (length ring)) refl (sym (ap saysPlanned (x .answer)) ∙ e))
   where
-    go : (r : ℕ) → planRefusal s part (length sup) (length ring) ≡ r → answer r Done NotPlanned ≡ Done →
-        judgeAnswer s part (answer r (plannedBytes (s .w) (s .h) (s .n) (boundOf s) part) (λ k. sup)) (answer r (plannedRings (s .w) (s .h) (s .n) (boundOf s) part) (λ k. ring)) ≡ Accepted
+    go : (r : ℕ) → planRefusal s part (length sup) (length ring) ≡ r → saysPlanned (answer r Done NotPlanned) ≡ 0 ∷ [] →
+        saysJudged (judgeAnswer s part (answer r (plannedBytes (s .w) (s .h) (s .n) (boundOf s) part) (λ k. sup)) (answer r (plannedRings (s .w) (s .h) (s .n) (boundOf s) part) (λ k. ring))) ≡ 0 ∷ []
     go zero z h = plan-accepted s part (length sup) (length ring) z
-    go (suc r) z h = absurd (let y : _≡_ {A = ℕ} 0 1 = cc in omega arith)
+    go (suc r) z h = absurd (let y : _≡_ {A = ℕ} (suc r) 0 = cc in omega arith)
 
 -- "and every accepted stack contains all of the planned support"
-pub plan-least : (s : Settings) (part sup l : List ℕ) → judgeAnswer s part sup l ≡ Accepted →
+pub plan-least : (s : Settings) (part sup l : List ℕ) → saysJudged (judgeAnswer s part sup l) ≡ 0 ∷ [] →
     (i p : ℕ) → i < s .n → p < s .h * s .w → pixel (s .w) (s .h) (plannedBytes (s .w) (s .h) (s .n) (boundOf s) part) i p ≡ true → pixel (s .w) (s .h) sup i p ≡ true
 plan-least s part sup l e = plannedBytes-least (s .w) (s .h) (s .n) (boundOf s) part sup l (accepted-is s part sup l .0 e .1)

@@ -2,14 +2,15 @@
 -- several rows and bytes, a job file with support and rings, and the report's text.
 use mathlib.Core.Path.{_≡_, refl}
 use mathlib.Core.List.{List, [], _∷_, _++_, map}
+use mathlib.Core.Bool.{Bool, true, false}
 use Prim.Native.Nat.{ℕ, _+_}
-use lib.ListN.{length, take, set}
-use Rattle.rules.specs.Tools.{bit, some, count, each, joinedUp, first}
-use Rattle.rules.specs.Images.{within, sized, rowBytes, bitAt, pixel, rowsOf, stackBytes, paddingSet, byteOf, bytesOf, ringsIn, ringAt}
-use Rattle.rules.specs.Reach.{settable, reachOf, square, boundOf, apart, distance²}
-use Rattle.rules.specs.Planning.{shadow, near, seeds, reached, touch, source, touching, fits, grow, grown, ringPlane, rings, excused, supportUnder, topOf, planned, empty, plannedRings, plannedBytes}
+use lib.ListN.{length, getD, take, drop, set}
+use Rattle.rules.specs.Tools.{bit, some, count, largest, each, joinedUp, first}
+use Rattle.rules.specs.Images.{Rings, within, sized, rowBytes, bitAt, pixel, rowsOf, stackBytes, paddingSet, byteOf, bytesOf, ringsIn, ringAt}
+use Rattle.rules.specs.Reach.{settable, reachOf, square, boundOf, apart, distance², root, halfWidth}
+use Rattle.rules.specs.Planning.{shadow, near, seeds, reached, touch, source, touching, fits, grow, grown, ringPlane, rings, excused, supportUnder, topOf, planned, empty, plannedRings, plannedBytes, dilated, swallowed, growingSwallow, regionSubtraction}
 use Rattle.rules.specs.Judging.{overlap, badRing, unheld, firstIn, placeOf, tell, verdict, verdictOf}
-use Rattle.rules.specs.Jobs.{Job, headEnd, partEnd, supportCount, supportEnd, ringCount, jobEnd, settingsIn, storedIn, partIn, supportIn, ringsStored, layoutOf, storedRows, fileOf, fileLength, over}
+use Rattle.rules.specs.Jobs.{Job, be16, be32, put16, put32, get16s, put16s, headEnd, partEnd, supportCount, supportEnd, ringCount, jobEnd, settingsIn, storedIn, partIn, supportIn, ringsStored, layoutOf, storedRows, fileOf, fileLength, over}
 use Rattle.rules.specs.Calls.{saysPlanned, saysJudged, saysRead, saysCopied, saysWritten, reachCases, settingCases, lengthCases, planCases, planRefusal, planAnswer, planSupport, planRings, judgeCases, judgeAnswer, sectionCases, readCases, readRefusal, readAnswer, partAnswer, supportAnswer, copyCases, copyAnswer, copyRings, writeCases, writeRefusal, writeAnswer, writeTo}
 use Rattle.rules.specs.Report.{digits, decimal, spaced, refusedLine, jobLine, filled, excusedAbove, layerLine, planLines, reportCases, reportOf}
 use Rattle.rules.specs.declared.Settings.{Settings}
@@ -37,6 +38,52 @@ pub plans-rows :
 unfolding bit some each joinedUp within sized rowBytes bitAt pixel rowsOf stackBytes paddingSet byteOf bytesOf ringsIn ringAt settable reachOf square boundOf apart distance² shadow near seeds reached touch source touching fits grow grown ringPlane rings excused supportUnder topOf planned empty plannedRings plannedBytes reachCases settingCases lengthCases planCases planRefusal planSupport planRings settings leaves
 plans-rows = refl
 
+-- near any part of the layer below, also where the upper layer has none; and a path of ten steps in a plane of three rows and six columns
+pub plans-paths :
+    leaves (settings 8 1 2 100 200) (0x84 ∷ 0xF8 ∷ [])
+    ∷ leaves (settings 6 3 2 100 600) (0x80 ∷ 0x00 ∷ 0x00 ∷ 0xFC ∷ 0x04 ∷ 0xFC ∷ [])
+    ∷ []
+    ≡ ((0x00 ∷ 0x00 ∷ []) ∷ (0 ∷ 1 ∷ 2 ∷ 3 ∷ 4 ∷ 0 ∷ 0 ∷ 0 ∷ []) ∷ [])
+    ∷ ((0x00 ∷ 0x00 ∷ 0x00 ∷ 0x00 ∷ 0x00 ∷ 0x00 ∷ []) ∷ (0 ∷ 1 ∷ 2 ∷ 3 ∷ 4 ∷ 5 ∷ 0 ∷ 0 ∷ 0 ∷ 0 ∷ 0 ∷ 5 ∷ 10 ∷ 9 ∷ 8 ∷ 7 ∷ 6 ∷ 6 ∷ []) ∷ [])
+    ∷ []
+unfolding bit some each joinedUp within sized rowBytes bitAt pixel rowsOf stackBytes paddingSet byteOf bytesOf ringsIn ringAt settable reachOf square boundOf apart distance² shadow near seeds reached touch source touching fits grow grown ringPlane rings excused supportUnder topOf planned empty plannedRings plannedBytes reachCases settingCases lengthCases planCases planRefusal planSupport planRings settings leaves
+plans-paths = refl
+
+-- the bound on squared distances is the reach squared, for the lowest pair and the highest
+pub bounds : map (λ t. boundOf (settings 1 1 512 100 t) 0) (0 ∷ 99 ∷ 199 ∷ 510 ∷ 3210 ∷ []) ++ boundOf (settings 1 1 512 135 3810) 510 ∷ [] ≡ 0 ∷ 0 ∷ 1 ∷ 25 ∷ 1024 ∷ 784 ∷ []
+unfolding reachOf square boundOf settings
+bounds = refl
+
+-- "one of its eight neighbours": those of the middle of nine pixels, and of a corner
+pub eight-neighbours : map (touch 3 4) (0 ∷ 1 ∷ 2 ∷ 3 ∷ 4 ∷ 5 ∷ 6 ∷ 7 ∷ 8 ∷ []) ∷ map (touch 3 0) (0 ∷ 1 ∷ 2 ∷ 3 ∷ 4 ∷ 5 ∷ 6 ∷ 7 ∷ 8 ∷ []) ∷ []
+    ≡ (true ∷ true ∷ true ∷ true ∷ false ∷ true ∷ true ∷ true ∷ true ∷ []) ∷ (false ∷ true ∷ false ∷ true ∷ true ∷ false ∷ false ∷ false ∷ false ∷ []) ∷ []
+unfolding apart touch
+eight-neighbours = refl
+
+-- "the largest whole number whose square is at most m", and how far a disc of radius 5 runs to each side in its rows
+pub roots-and-halves : map root (0 ∷ 1 ∷ 2 ∷ 3 ∷ 4 ∷ 8 ∷ 9 ∷ 15 ∷ 16 ∷ 99 ∷ 100 ∷ 1023 ∷ 1024 ∷ []) ∷ map (halfWidth 25) (0 ∷ 1 ∷ 2 ∷ 3 ∷ 4 ∷ 5 ∷ []) ∷ []
+    ≡ (0 ∷ 1 ∷ 1 ∷ 1 ∷ 2 ∷ 2 ∷ 3 ∷ 3 ∷ 4 ∷ 9 ∷ 10 ∷ 31 ∷ 32 ∷ []) ∷ (5 ∷ 4 ∷ 4 ∷ 4 ∷ 3 ∷ 0 ∷ []) ∷ []
+unfolding largest square root halfWidth
+roots-and-halves = refl
+
+-- Algorithm 2 of the chapter, by itself: the lower layers of pieces d, e and g, the last with the support 07 above
+pub algorithm-2 :
+    each 0 8 (regionSubtraction 8 1 9 (bitAt 0xE0) (bitAt 0xF7) (λ p. false))
+    ∷ each 0 8 (regionSubtraction 8 1 0 (bitAt 0xE0) (bitAt 0xFF) (λ p. false))
+    ∷ each 0 8 (regionSubtraction 8 1 4 (bitAt 0x01) (bitAt 0xE0) (bitAt 0x07))
+    ∷ []
+    ≡ each 0 8 (bitAt 0x07) ∷ each 0 8 (bitAt 0x1F) ∷ each 0 8 (bitAt 0xE6) ∷ []
+unfolding some each bitAt square apart distance² shadow near touch touching dilated swallowed growingSwallow regionSubtraction
+algorithm-2 = refl
+
+-- what is painted besides stays outside the part, in the top layer and below it: 18 and 21 painted over E0 in both layers
+pub paints : Rings → ℕ → List Bool
+paints ring i = each 0 8 (planned 2 (λ i. bitAt 0xE0) (λ i. bitAt (getD (0x21 ∷ 0x18 ∷ []) i 0)) ring i)
+
+pub painted-kept : paints (λ i p. 0) 1 ∷ paints (λ i p. 0) 0 ∷ [] ≡ each 0 8 (bitAt 0x18) ∷ each 0 8 (bitAt 0x19) ∷ []
+unfolding each bitAt shadow excused supportUnder topOf planned paints
+painted-kept = refl
+
 pub plan-says : Settings → List ℕ → ℕ → ℕ → List ℕ
 plan-says s part a b = saysPlanned (planAnswer s part a b)
 
@@ -60,6 +107,7 @@ plan-numbers = refl
 pub judge-says : Settings → List ℕ → List ℕ → List ℕ → List ℕ
 judge-says s part sup ring = saysJudged (judgeAnswer s part sup ring)
 
+-- 4 to 11, each with what comes after it wrong as well where that can be; support that hangs; and padding in the second layer only
 pub judge-numbers :
     judge-says (settings 7 1 2 10 0) (1 ∷ []) [] []
     ∷ judge-says (settings 7 1 2 10 0) (1 ∷ 1 ∷ []) (1 ∷ []) []
@@ -70,8 +118,11 @@ pub judge-numbers :
     ∷ judge-says (settings 2 2 3 100 200) (0x80 ∷ 0x80 ∷ 0x80 ∷ 0x80 ∷ 0x80 ∷ 0xC0 ∷ []) (0 ∷ 0 ∷ 0 ∷ 0 ∷ 0 ∷ 0 ∷ []) (each 0 8 (λ x. 0))
     ∷ judge-says (settings 2 2 3 100 200) (0x80 ∷ 0x80 ∷ 0x80 ∷ 0x80 ∷ 0x80 ∷ 0xC0 ∷ []) (0 ∷ 0 ∷ 0 ∷ 0 ∷ 0 ∷ 0 ∷ []) (0 ∷ 0 ∷ 0 ∷ 0 ∷ 0 ∷ 0 ∷ 0 ∷ 2 ∷ [])
     ∷ judge-says (settings 2 2 3 100 200) (0x80 ∷ 0x80 ∷ 0x80 ∷ 0x80 ∷ 0x80 ∷ 0xC0 ∷ []) (0 ∷ 0 ∷ 0 ∷ 0 ∷ 0x40 ∷ 0xC0 ∷ []) (each 0 8 (λ x. 0))
+    ∷ judge-says (settings 8 1 2 100 0) (0x80 ∷ 0x80 ∷ []) (0x00 ∷ 0x08 ∷ []) (each 0 8 (λ x. 0))
+    ∷ judge-says (settings 7 1 2 10 0) (2 ∷ 1 ∷ []) (4 ∷ 1 ∷ []) (each 0 7 (λ x. 0))
+    ∷ judge-says (settings 7 1 2 10 0) (2 ∷ 2 ∷ []) (4 ∷ 1 ∷ []) (each 0 7 (λ x. 0))
     ∷ []
-    ≡ (4 ∷ []) ∷ (5 ∷ []) ∷ (6 ∷ []) ∷ (7 ∷ []) ∷ (8 ∷ []) ∷ (0 ∷ []) ∷ (11 ∷ 2 ∷ 1 ∷ 1 ∷ []) ∷ (10 ∷ 2 ∷ 1 ∷ 1 ∷ []) ∷ (9 ∷ 2 ∷ 1 ∷ 0 ∷ []) ∷ []
+    ≡ (4 ∷ []) ∷ (5 ∷ []) ∷ (6 ∷ []) ∷ (7 ∷ []) ∷ (8 ∷ []) ∷ (0 ∷ []) ∷ (11 ∷ 2 ∷ 1 ∷ 1 ∷ []) ∷ (10 ∷ 2 ∷ 1 ∷ 1 ∷ []) ∷ (9 ∷ 2 ∷ 1 ∷ 0 ∷ []) ∷ (11 ∷ 1 ∷ 0 ∷ 4 ∷ []) ∷ (7 ∷ []) ∷ (8 ∷ []) ∷ []
 unfolding some each first within sized rowBytes bitAt pixel rowsOf stackBytes paddingSet ringsIn ringAt settable reachOf square boundOf apart distance² shadow near seeds reached touch source touching fits overlap badRing unheld firstIn placeOf tell verdict verdictOf reachCases settingCases lengthCases judgeCases judgeAnswer settings judge-says
 judge-numbers = refl
 
@@ -100,6 +151,25 @@ pub file-told : fileOf jobB ∷ saysRead (readAnswer fileB) ∷ partAnswer fileB
 unfolding some each within sized rowBytes rowsOf stackBytes paddingSet ringsIn settable reachOf headEnd partEnd supportCount supportEnd ringCount jobEnd settingsIn storedIn partIn supportIn ringsStored layoutOf storedRows fileOf fileLength reachCases settingCases sectionCases readCases readRefusal readAnswer partAnswer supportAnswer copyCases copyRings writeCases writeRefusal writeAnswer settings fileB jobB
 file-told = refl
 
+-- "All numbers are big-endian.": four bytes and two, each way, at an offset too
+pub numbers-big-endian :
+    put32 16909060 ∷ put16 258 ∷ put16s (258 ∷ 772 ∷ [])
+    ∷ (be32 (1 ∷ 2 ∷ 3 ∷ 4 ∷ []) 0 ∷ be32 (9 ∷ 1 ∷ 2 ∷ 3 ∷ 4 ∷ []) 1 ∷ be16 (1 ∷ 2 ∷ []) 0 ∷ be16 (9 ∷ 1 ∷ 2 ∷ []) 1 ∷ []) ∷ get16s (9 ∷ 1 ∷ 2 ∷ 3 ∷ 4 ∷ []) 1 2
+    ∷ []
+    ≡ (1 ∷ 2 ∷ 3 ∷ 4 ∷ []) ∷ (1 ∷ 2 ∷ []) ∷ (1 ∷ 2 ∷ 3 ∷ 4 ∷ []) ∷ (16909060 ∷ 16909060 ∷ 258 ∷ 258 ∷ []) ∷ (258 ∷ 772 ∷ []) ∷ []
+numbers-big-endian = refl
+
+-- counts that need more than two bytes: 256 layers of 256 rows have 65,536 rows, and 3 layers of 256 x 256 pixels 131,072 rings
+pub large-counts : (part sup ring : List ℕ) →
+    take 4 (drop 14 (fileOf (record { settings = settings 8 256 256 100 200; part = part; support = sup; rings = ring })))
+    ∷ put32 (ringCount (settings 256 256 3 100 200) 768)
+    ∷ saysRead (readAnswer (0 ∷ 0 ∷ 0 ∷ 5 ∷ 0 ∷ 8 ∷ 1 ∷ 0 ∷ 1 ∷ 0 ∷ 0 ∷ 100 ∷ 0 ∷ 200 ∷ 0 ∷ 1 ∷ 0 ∷ 0 ∷ []))
+    ∷ saysRead (readAnswer (0 ∷ 0 ∷ 0 ∷ 5 ∷ 0 ∷ 8 ∷ 1 ∷ 0 ∷ 1 ∷ 0 ∷ 0 ∷ 100 ∷ 0 ∷ 200 ∷ 0 ∷ 0 ∷ 0 ∷ 0 ∷ []))
+    ∷ []
+    ≡ (0 ∷ 1 ∷ 0 ∷ 0 ∷ []) ∷ (0 ∷ 2 ∷ 0 ∷ 0 ∷ []) ∷ (12 ∷ []) ∷ (13 ∷ []) ∷ []
+unfolding within sized rowBytes rowsOf stackBytes ringsIn settable reachOf headEnd partEnd ringCount settingsIn storedRows fileOf reachCases settingCases sectionCases readCases readRefusal readAnswer settings
+large-counts part sup ring = refl
+
 pub read-says : List ℕ → List ℕ
 read-says f = saysRead (readAnswer f)
 
@@ -127,20 +197,21 @@ pub read-numbers : map read-says (
     ∷ (set (set fileB 5 7) 29 7 ++ 0 ∷ [])
     ∷ take 44 (set (set fileB 5 7) 29 7)
     ∷ take 44 (set (set (set fileB 5 7) 29 7) 19 0xFE)
+    ∷ (take 20 fileB ++ 0 ∷ 0 ∷ 0 ∷ 1 ∷ 0x07 ∷ drop 26 fileB)
     ∷ [])
     ≡ (12 ∷ []) ∷ (12 ∷ []) ∷ (13 ∷ []) ∷ (13 ∷ []) ∷ (12 ∷ []) ∷ (1 ∷ []) ∷ (1 ∷ []) ∷ (2 ∷ []) ∷ (3 ∷ []) ∷ (12 ∷ []) ∷ (13 ∷ []) ∷ (12 ∷ []) ∷ (12 ∷ []) ∷ (13 ∷ [])
-    ∷ (12 ∷ []) ∷ (12 ∷ []) ∷ (13 ∷ []) ∷ (12 ∷ []) ∷ (14 ∷ []) ∷ (14 ∷ []) ∷ (7 ∷ []) ∷ (8 ∷ [])
+    ∷ (12 ∷ []) ∷ (12 ∷ []) ∷ (13 ∷ []) ∷ (12 ∷ []) ∷ (14 ∷ []) ∷ (14 ∷ []) ∷ (7 ∷ []) ∷ (8 ∷ []) ∷ (13 ∷ [])
     ∷ []
 unfolding some within sized rowBytes rowsOf stackBytes paddingSet ringsIn settable reachOf headEnd partEnd supportCount supportEnd ringCount jobEnd settingsIn storedIn partIn supportIn layoutOf reachCases settingCases sectionCases readCases readRefusal readAnswer fileB read-says
 read-numbers = refl
 
 -- copying rings: 6 for a wrong number of them, after what reading tests; and a job without support
 pub copy-numbers :
-    saysCopied (copyAnswer fileB 8) ∷ saysCopied (copyAnswer fileB 7) ∷ saysCopied (copyAnswer (fileB ++ 0 ∷ []) 7)
+    saysCopied (copyAnswer fileB 8) ∷ saysCopied (copyAnswer fileB 7) ∷ saysCopied (copyAnswer fileB 9) ∷ saysCopied (copyAnswer (fileB ++ 0 ∷ []) 7)
     ∷ saysCopied (copyAnswer (take 20 fileB ++ 0 ∷ 0 ∷ 0 ∷ 0 ∷ 0 ∷ 0 ∷ 0 ∷ 0 ∷ []) 0)
     ∷ copyRings fileB (9 ∷ 9 ∷ [])
     ∷ []
-    ≡ (0 ∷ []) ∷ (6 ∷ []) ∷ (14 ∷ []) ∷ (0 ∷ []) ∷ (9 ∷ 9 ∷ []) ∷ []
+    ≡ (0 ∷ []) ∷ (6 ∷ []) ∷ (6 ∷ []) ∷ (14 ∷ []) ∷ (0 ∷ []) ∷ (9 ∷ 9 ∷ []) ∷ []
 unfolding some within sized rowBytes rowsOf stackBytes paddingSet ringsIn settable reachOf headEnd partEnd supportCount supportEnd ringCount jobEnd settingsIn storedIn partIn supportIn ringsStored reachCases settingCases sectionCases readCases copyCases copyAnswer copyRings fileB
 copy-numbers = refl
 
@@ -156,11 +227,13 @@ pub write-numbers :
     ∷ job7 (1 ∷ 1 ∷ []) [] (0 ∷ [])
     ∷ job7 (1 ∷ 1 ∷ []) (1 ∷ 1 ∷ []) (each 0 7 (λ x. 0))
     ∷ job7 (2 ∷ 2 ∷ []) (1 ∷ 1 ∷ []) (each 0 7 (λ x. 0))
+    ∷ job7 (2 ∷ 1 ∷ []) (4 ∷ 1 ∷ []) (each 0 7 (λ x. 0))
+    ∷ job7 (2 ∷ 2 ∷ []) (4 ∷ 1 ∷ []) (each 0 7 (λ x. 0))
     ∷ job7 (2 ∷ 2 ∷ []) (4 ∷ 4 ∷ []) (each 0 7 (λ x. 0))
     ∷ job7 (2 ∷ 2 ∷ []) [] []
     ∷ jobB
     ∷ [])
-    ≡ (4 ∷ []) ∷ (5 ∷ []) ∷ (6 ∷ []) ∷ (6 ∷ []) ∷ (7 ∷ []) ∷ (8 ∷ []) ∷ (0 ∷ 44 ∷ []) ∷ (0 ∷ 28 ∷ []) ∷ (16 ∷ []) ∷ []
+    ≡ (4 ∷ []) ∷ (5 ∷ []) ∷ (6 ∷ []) ∷ (6 ∷ []) ∷ (7 ∷ []) ∷ (8 ∷ []) ∷ (7 ∷ []) ∷ (8 ∷ []) ∷ (0 ∷ 44 ∷ []) ∷ (0 ∷ 28 ∷ []) ∷ (16 ∷ []) ∷ []
 unfolding some each within sized rowBytes rowsOf stackBytes paddingSet ringsIn settable reachOf headEnd partEnd supportEnd ringCount jobEnd storedRows fileLength reachCases settingCases writeCases writeRefusal writeAnswer settings jobB job7
 write-numbers = refl
 

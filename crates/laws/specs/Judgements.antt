@@ -61,6 +61,12 @@ says-place (RefusedAt j at) k i r c e =
     let z : at .column ≡ c = cc in
     rw (← a, ← x, ← y, ← z)
 
+is-accepted : {v : Judged} → Verdict v → saysJudged v ≡ 0 ∷ [] → v ≡ Accepted
+is-accepted accepted e = refl
+is-accepted (overlapping at) e = absurd (let y : _≡_ {A = ℕ} 4 1 = ap length e in omega arith)
+is-accepted (ring-is-bad at) e = absurd (let y : _≡_ {A = ℕ} 4 1 = ap length e in omega arith)
+is-accepted (hanging at) e = absurd (let y : _≡_ {A = ℕ} 4 1 = ap length e in omega arith)
+
 module _ (s : Settings) (part sup l : List ℕ) where
   abbrev table : List Case
   table = judgeCases s part sup (length l)
@@ -79,6 +85,15 @@ module _ (s : Settings) (part sup l : List ℕ) where
       go : (x : ℕ) → saysJudged (answer x found-out Refused) ≡ suc k ∷ [] → x ≡ suc k
       go zero e = absurd (no-number k (verdict-is (s .w) (s .h) (s .n) (boundOf s) part sup l) e)
       go (suc x) e = cc
+
+  -- 0 is said exactly when nothing is refused and the verdict is to accept
+  pub says-accepted : (saysJudged (judgeAnswer s part sup l) ≡ 0 ∷ []) ↔ ((refusal table ≡ 0) × (found-out ≡ Accepted))
+  unfolding judgeAnswer
+  says-accepted = ((λ e. go (refusal table) refl e), (λ (z, v). ap saysJudged (answer-fine (refusal table) found-out Refused z ∙ v)))
+    where
+      go : (x : ℕ) → refusal table ≡ x → saysJudged (answer x found-out Refused) ≡ 0 ∷ [] → (refusal table ≡ 0) × (found-out ≡ Accepted)
+      go zero z e = (z, is-accepted (verdict-is (s .w) (s .h) (s .n) (boundOf s) part sup l) e)
+      go (suc x) z e = absurd (let y : _≡_ {A = ℕ} (suc x) 0 = cc in omega arith)
 
   -- a place is told exactly when nothing is refused and the searches find it
   judge-tells : (k i r c : ℕ) → (saysJudged (judgeAnswer s part sup l) ≡ k ∷ i ∷ r ∷ c ∷ []) ↔
@@ -144,22 +159,12 @@ module _ (s : Settings) (part sup l : List ℕ) where
   -- 0: accepted, exactly when nothing is refused and nothing is found
   pub judge-accepts : (saysJudged (judgeAnswer s part sup l) ≡ 0 ∷ []) ↔
       (NoneGiven table × Passed (s .w) (s .h) (s .n) (boundOf s) P T (ringAt (s .w) (s .h) l))
-  unfolding judgeAnswer verdictOf
+  unfolding verdictOf
   judge-accepts = (
     (λ e.
-        let (z, v) = go (refusal table) refl e in
+        let (z, v) = says-accepted .0 e in
         (none-exactly table (judge-numbered s part sup (length l)) .0 z, accepted-out (s .w) (s .h) (s .n) (boundOf s) P T (ringAt (s .w) (s .h) l) v)),
     (λ (n, p).
         let z : refusal table ≡ 0 = none-exactly table (judge-numbered s part sup (length l)) .1 n in
-        ap saysJudged (answer-fine (refusal table) found-out Refused z ∙ accepted-in (s .w) (s .h) (s .n) (boundOf s) P T (ringAt (s .w) (s .h) l) p)),
+        says-accepted .1 (z, accepted-in (s .w) (s .h) (s .n) (boundOf s) P T (ringAt (s .w) (s .h) l) p)),
   )
-    where
-      is-accepted : {v : Judged} → Verdict v → saysJudged v ≡ 0 ∷ [] → v ≡ Accepted
-      is-accepted accepted e = refl
-      is-accepted (overlapping at) e = absurd (let y : _≡_ {A = ℕ} 4 1 = ap length e in omega arith)
-      is-accepted (ring-is-bad at) e = absurd (let y : _≡_ {A = ℕ} 4 1 = ap length e in omega arith)
-      is-accepted (hanging at) e = absurd (let y : _≡_ {A = ℕ} 4 1 = ap length e in omega arith)
-
-      go : (x : ℕ) → refusal table ≡ x → saysJudged (answer x found-out Refused) ≡ 0 ∷ [] → (refusal table ≡ 0) × (found-out ≡ Accepted)
-      go zero z e = (z, is-accepted (verdict-is (s .w) (s .h) (s .n) (boundOf s) part sup l) e)
-      go (suc x) z e = absurd (let y : _≡_ {A = ℕ} (suc x) 0 = cc in omega arith)

@@ -3,9 +3,10 @@ use mathlib.Core.Path.{_≡_, refl, sym, subst}
 use mathlib.Core.Logic.{_⊎_, inl, inr, _↔_}
 use mathlib.Core.Bool.{Bool, true, false, not, _&&_, cond}
 use mathlib.Core.List.{List, [], _∷_, _++_, map}
-use Prim.Native.Nat.{ℕ, zero, suc}
+use Prim.Native.Nat.{ℕ, zero, suc, _≤_}
 use native.Mathlib.Omega.{arith}
-use lib.Dec.{eqb}
+use lib.Dec.{leb, eqb}
+use borrow.Author.Tests.{leb-true}
 use Rattle.rules.specs.Tools.{Case, _when_, refusal, answer}
 use Rattle.rules.specs.Demands.{Given, here, later, NoneGiven, end, next}
 use Rattle.rules.specs.Jobs.{Job}
@@ -97,6 +98,19 @@ refusal-append (c ∷ a) b n =
 pub case-out : (b : Bool) (k x : ℕ) → cond b (suc k) x ≡ 0 → (b ≡ false) × (x ≡ 0)
 case-out true k x e = absurd (omega arith)
 case-out false k x e = (refl, e)
+
+-- no number of the table is over m, so no refusal is
+unfoldable pub upTo : ℕ → List Case → Bool
+upTo m [] = true
+upTo m (c ∷ cs) = leb (c .number) m && upTo m cs
+
+pub at-most : (m : ℕ) (cs : List Case) → upTo m cs ≡ true → refusal cs ≤ m
+unfolding upTo
+at-most m [] l = omega arith
+at-most m (c ∷ cs) l =
+    split (c .applies)
+    (λ t. rw t (leb-true (c .number) m (and-l (leb (c .number) m) (upTo m cs) l)))
+    (λ t. rw t (at-most m cs (and-r (leb (c .number) m) (upTo m cs) l)))
 
 -- an answer, by its refusal number
 pub answer-fine : {A : Type 0} (r : ℕ) (fine : A) (refused : ℕ → A) → r ≡ 0 → answer r fine refused ≡ fine

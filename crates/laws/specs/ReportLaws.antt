@@ -8,17 +8,17 @@ use native.Mathlib.Omega.{arith}
 use lib.Dec.{ltb}
 use lib.ListN.{length, length-append, take, drop-of-length-le, take-append-drop}
 use borrow.Author.Tests.{ltb-true, ltb-false, lt-ltb, le-ltb}
-use Rattle.rules.specs.Tools.{_when_, refusal, answer, bit, some, count, each, joinedUp}
+use Rattle.rules.specs.Tools.{Case, _when_, refusal, answer, bit, some, count, each, joinedUp}
 use Rattle.rules.specs.Images.{within, sized, rowBytes, bitAt, pixel, rowsOf, stackBytes, paddingSet, byteOf, bytesOf, ringsIn, ringAt}
 use Rattle.rules.specs.Reach.{settable, reachOf, square, boundOf, apart, distance²}
 use Rattle.rules.specs.Planning.{shadow, near, seeds, reached, touch, source, touching, fits, grow, grown, ringPlane, rings, excused, supportUnder, topOf, planned, empty, plannedRings, plannedBytes}
 use Rattle.rules.specs.Jobs.{headEnd, partEnd, supportCount, supportEnd, ringCount, jobEnd, settingsIn, storedIn, partIn, supportIn}
-use Rattle.rules.specs.Calls.{reachCases, settingCases, sectionCases, readCases}
+use Rattle.rules.specs.Calls.{reachCases, settingCases, sectionCases, readCases, readRefusal}
 use Rattle.rules.specs.Report.{digits, decimal, spaced, newline, refusedLine, jobLine, filled, excusedAbove, layerLine, planLines, reportCases, reportOf}
 use Rattle.rules.specs.Demands.{Given}
 use Rattle.rules.specs.declared.Settings.{Settings}
 use Rattle.laws.specs.Tests.{split}
-use Rattle.laws.specs.Refusals.{numbered, refusal-append, given-exactly}
+use Rattle.laws.specs.Refusals.{numbered, refusal-append, else-both, case-out, given-exactly}
 
 -- "Input (28 bytes, hexadecimal) .. Whole output": `job 8 1 2 reach 2`, `1 8 0 0`, `0 3 3 2`
 pub report-example :
@@ -90,6 +90,14 @@ decimal-length x h =
 read-numbered : (f : List ℕ) → numbered (readCases f) ≡ true
 unfolding readCases sectionCases settingCases reachCases numbered
 read-numbered f = refl
+
+-- what the program does not refuse, reading does not
+pub report-reads : (f : List ℕ) → refusal (reportCases f) ≡ 0 → readRefusal f ≡ 0
+unfolding reportCases readRefusal
+report-reads f e =
+    let rest : List Case = readCases f ++ (17 when ltb 32768 (ringsIn (settingsIn f))) ∷ [] in
+    let (_, z) = case-out (ltb 65536 (length f)) 16 (refusal rest) e in
+    else-both (refusal (readCases f)) _ (sym (refusal-append (readCases f) ((17 when ltb 32768 (ringsIn (settingsIn f))) ∷ []) (read-numbered f)) ∙ z) .0
 
 -- 17 in both places ----------------------------------------------------------------------------------------------------------------
 

@@ -1,23 +1,28 @@
 -- Demand 2: "A job written and read back is the same job; a job file that is accepted and written again is the same bytes."
 use mathlib.Core.Path.{_≡_, refl, sym, ap, ap₂, _∙_}
-use mathlib.Core.List.{List, [], _++_, append-assoc, append-nil}
-use mathlib.Core.Bool.{Bool, true, false, _||_, cond}
-use Prim.Native.Nat.{ℕ, _+_, _-_, _*_, _≤_, _<_}
+use mathlib.Core.List.{List, [], _∷_, _++_, append-assoc, append-nil}
+use mathlib.Core.Bool.{Bool, true, false, not, _||_, cond}
+use Prim.Native.Nat.{ℕ, zero, suc, _+_, _-_, _*_, _≤_, _<_}
 use native.Mathlib.Nat.{zero-add, zero-mul, mul-le-mul}
 use native.Mathlib.Omega.{arith}
 use lib.Dec.{eqb}
 use lib.ListN.{length, take, drop, length-drop, drop-of-length-le, take-append-drop}
 use lib.Seq.{length-take-le, take-at, drop-at}
 use borrow.Author.Tests.{eq-eqb, ne-eqb, eqb-true}
-use Rattle.rules.specs.Tools.{refusal}
+use Rattle.rules.specs.Tools.{refusal, answer}
 use Rattle.rules.specs.Images.{rowBytes, rowsOf, stackBytes}
 use Rattle.rules.specs.Jobs.{Job, be16, be32, put16, put32, get16s, put16s, headEnd, partEnd, supportCount, supportEnd, ringCount, settingsIn, storedIn, partIn, supportIn, ringsStored, layoutOf, jobIn, storedRows, fileOf, fileLength, over}
-use Rattle.rules.specs.Calls.{readRefusal, readAnswer, partAnswer, supportAnswer, copyCases, copyRings, writeRefusal, writeTo}
+use Rattle.rules.specs.Calls.{saysSettings, saysRead, saysWritten, readRefusal, readAnswer, partAnswer, supportAnswer, copyCases, copyAnswer, copyRings, writeRefusal, writeTo}
+use Rattle.rules.specs.Outcomes.{Reads, HandsPart, HandsSupport, Copies, Writes}
 use Rattle.rules.specs.Demands.{Bytes, Words}
 use Rattle.rules.specs.declared.Settings.{Settings}
+use Rattle.rules.specs.declared.Layout.{Layout}
 use Rattle.rules.specs.declared.ReadJob.the-variants.{Job as IsJob}
+use Rattle.rules.specs.declared.CopiedRings.the-variants.{Copied, Refused as NotCopied}
+use Rattle.rules.specs.declared.WrittenJob.{WrittenJob}
 use Rattle.laws.specs.Tests.{or-r}
 use Rattle.laws.specs.Refusals.{answer-fine, answer-refused}
+use Rattle.laws.specs.Demand1.{read-answers, job-read, write-answers}
 use Rattle.laws.specs.Limits.{Ranged, ranged, rows-most}
 use Rattle.laws.specs.Numbers.{peel16, peel32, peel, peel16s, grow16, grow32, grow, grow16s, length-get16s}
 use Rattle.laws.specs.JobFiles.{copy-fits, Accepted, accepted-exactly, rooms, rowsStored, Writable, writable-exactly, write-fits, write-short, stored-most, ring-count-most, length-file}
@@ -248,12 +253,13 @@ module _ (j : Job) (w : Words (j .rings)) (v : Writable j) where
 
 -- "A job written and read back is the same job"
 pub read-back : (j : Job) (room : ℕ) → Words (j .rings) → writeRefusal j room ≡ 0 →
-    (readRefusal (fileOf j) ≡ 0) × (jobIn (fileOf j) ≡ j) × (readAnswer (fileOf j) ≡ IsJob (layoutOf (fileOf j)))
-unfolding readAnswer
+    (readRefusal (fileOf j) ≡ 0)
+    × (jobIn (fileOf j) ≡ j)
+    × (saysRead (readAnswer (fileOf j)) ≡ 0 ∷ saysSettings (j .settings) ++ cond (not (eqb (rowsStored j) 0)) 1 0 ∷ 4 ∷ 18 ∷ (partEnd (j .settings) + 4) ∷ (supportEnd (j .settings) (rowsStored j) + 4) ∷ [])
 read-back j room w e =
     let v = writable-exactly j room .0 e .0 in
     let r = accepted-exactly (fileOf j) .1 (written-accepted j w v) in
-    (r, same-job j w v, answer-fine (readRefusal (fileOf j)) _ _ r)
+    (r, same-job j w v, read-answers (fileOf j) r ∙ rw (head j w v .settings, stored j w v))
 
 -- and each call gives back what was written
 pub calls-give-back : (j : Job) (room : ℕ) → Words (j .rings) → writeRefusal j room ≡ 0 →
@@ -288,16 +294,33 @@ write-keeps-tail j d e =
     let n = length-file j (writable-exactly j (length d) .0 e .0) in
     (simp e (take-at (fileOf j) _ (fileLength j) n), simp e (drop-at (fileOf j) _ (fileLength j) n ∙ ap (λ (k : ℕ). drop k d) (zero-add (length (fileOf j)) ∙ n)))
 
--- an accepted file written again into a destination of its length: the same bytes
-pub rewritten : (f d : List ℕ) → Bytes f → readRefusal f ≡ 0 → length d ≡ length f → writeTo (jobIn f) d ≡ f
-rewritten f d b e n =
-    let (same, fits, short) = written-again f b e in
-    let z : writeRefusal (jobIn f) (length d) ≡ 0 = fits (length d) (omega arith) in
-    let (front, back) = write-keeps-tail (jobIn f) d z in
-    let k : fileLength (jobIn f) ≡ length f = same-length f (accepted-exactly f .0 e) in
-    let h : length d ≤ fileLength (jobIn f) = omega arith in
-    sym (take-append-drop (fileLength (jobIn f)) (writeTo (jobIn f) d))
-    ∙ rw (front, back, same) (ap (λ (l : List ℕ). f ++ l) (drop-of-length-le d h) ∙ append-nil f)
+-- "a job file that is accepted and written again is the same bytes", by the calls themselves, whatever the destination held: what reading tells, the two stretches and the copied rings, handed to
+-- writing with room enough, give the file's length and at the front of the destination the file's bytes; those past them stay
+pub written-again-by-calls : (f part sup old ring d d′ : List ℕ) (l : Layout) (r : WrittenJob) → Bytes f →
+    Reads f (IsJob l) → HandsPart f part → HandsSupport f sup → Copies f old Copied ring →
+    Writes (record { settings = l .settings; part = part; support = sup; rings = ring }) d r d′ → length f ≤ length d →
+    (saysWritten r ≡ 0 ∷ length f ∷ []) × (d′ ≡ f ++ drop (length f) d)
+unfolding partAnswer supportAnswer copyAnswer copyRings layoutOf
+written-again-by-calls f part sup old ring d d′ l r b read hands-part hands-support copies writes room =
+    let (z, told) = job-read f (IsJob l) l (read .answer) refl in
+    let p : part ≡ partIn f = hands-part .stretch ∙ answer-fine (readRefusal f) _ _ z in
+    let q : sup ≡ supportIn f = hands-support .stretch ∙ answer-fine (readRefusal f) _ _ z in
+    let k : refusal (copyCases f (length old)) ≡ 0 = copied (refusal (copyCases f (length old))) (copies .answer) in
+    let g : ring ≡ ringsStored f = copies .rings ∙ answer-fine (refusal (copyCases f (length old))) _ _ k in
+    let same-settings : l .settings ≡ settingsIn f = ap (λ (x : Layout). x .settings) told in
+    let j : Job = record { settings = l .settings; part = part; support = sup; rings = ring } in
+    let e : j ≡ jobIn f = rw (same-settings, p, q, g) in
+    let (same, fits, short) = written-again f b z in
+    let y : writeRefusal (jobIn f) (length d) ≡ 0 = fits (length d) room in
+    let n : fileLength (jobIn f) ≡ length f = same-length f (accepted-exactly f .0 z) in
+    let (front, back) = write-keeps-tail (jobIn f) d y in (
+      ap saysWritten (writes .answer) ∙ rw e (write-answers (jobIn f) (length d) y ∙ rw n),
+      writes .destination ∙ rw e (sym (take-append-drop (fileLength (jobIn f)) (writeTo (jobIn f) d)) ∙ rw (front, back, same, n)),
+    )
+  where
+    copied : (x : ℕ) → Copied ≡ answer x Copied NotCopied → x ≡ 0
+    copied zero h = refl
+    copied (suc x) h = absurd (let y : _≡_ {A = ℕ} 0 1 = cc in omega arith)
 
 -- and what is read of the bytes up to the length answered is the job
 pub written-read : (j : Job) (d : List ℕ) → Words (j .rings) → writeRefusal j (length d) ≡ 0 →

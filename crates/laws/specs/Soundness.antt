@@ -67,6 +67,10 @@ module _ (w h n : ℕ) (q : ℕ → ℕ) (part : Stack) where
       clash (r i (omega arith) p (ring i p - 1) lp (omega arith)) (not-out (F (ring i p - 1)) (and-r (ltb 0 (ring i p)) _ e)))
       (λ e. e)
 
+  -- where no ring is bad, a pixel of ring k is joined to a seed by k steps: a chain of rings is a path, so it cannot lean on itself
+  pub rings-joined : (ring : ℕ → ℕ → ℕ) → Nowhere w h (n - 1) (badRing w h q part ring) → (i p j : ℕ) → suc i < n → p < h * w → ring i p ≡ suc j → JoinedBy w h q part i (suc j) p
+  rings-joined ring b i p j l lp e = chain (h * w) (touch w) (freeIn w h q part i) (seedIn w h q part i) (ring i) (right-out ring b i l) j p lp e
+
   -- (4), one half: what is accepted with any rings is sound
   pub accepted-sound : (sup : Stack) (ring : ℕ → ℕ → ℕ) → Passed w h n q part sup ring → Sound w h n q part sup
   unfolding overlap unheld
@@ -75,7 +79,7 @@ module _ (w h n : ℕ) (q : ℕ → ℕ) (part : Stack) where
     holds = λ i p li lp u. split (part i p || sup i p) (λ t. inl t) (λ f.
         split (eqb (ring i p) 0)
         (λ z. let t : unheld part sup ring i p ≡ true = rw (u, f, z) in clash t (c .none-unheld i p (omega arith) lp))
-        (λ z. inr (suc (ring i p - 1), chain (h * w) (touch w) (freeIn w h q part i) (seedIn w h q part i) (ring i) (right-out ring (c .no-bad-ring) i li) (ring i p - 1) p lp (omega (arith, eqb-false (ring i p) 0 z)))));
+        (λ z. inr (suc (ring i p - 1), rings-joined ring (c .no-bad-ring) i p (ring i p - 1) li lp (omega (arith, eqb-false (ring i p) 0 z)))));
   }
 
   -- the rings that the planner gives, and their place in the list

@@ -11,7 +11,8 @@ ghost use Rattle.rules.specs.Images as images;
 ghost use Rattle.rules.specs.Images.{rowBytes, paddingSet};
 ghost use Rattle.rules.specs.Reach as rule;
 ghost use Rattle.laws.specs.Limits.{Ranged};
-ghost use Rattle.rules.specs.Calls.{reachCases, reachAnswer, settingCases, lengthCases};
+ghost use Rattle.rules.specs.Calls.{reachCases, settingCases, lengthCases};
+ghost use Rattle.rules.specs.Outcomes.{Reaches};
 
 fn within(low: usize, high: usize, x: usize) -> bool
     ensures { λ r. ⌜ r ≡ images.within low high x ⌝ }
@@ -66,7 +67,7 @@ fn reach_refusal(pitch: Micrometres, overhang: Micrometres) -> u8
 
 // The reach call.
 pub fn reach(pitch: Micrometres, overhang: Micrometres) -> Reached
-    ensures { λ r. ⌜ r ≡ reachAnswer pitch overhang ⌝ }
+    ensures { λ r. ⌜ Reaches pitch overhang r ⌝ }
 {
     let k = reach_refusal(pitch, overhang);
     if k != 0 {

@@ -8,27 +8,30 @@ use native.Mathlib.Omega.{arith}
 use lib.Dec.{ltb}
 use lib.ListN.{length, length-append, length-take, length-drop}
 use borrow.Author.Tests.{ltb-true, ltb-false, lt-ltb, le-ltb, eq-eqb}
-use Rattle.rules.specs.Tools.{_when_, refusal}
-use Rattle.rules.specs.Images.{rowsOf, stackBytes, ringsIn, paddingSet}
+use Rattle.rules.specs.Tools.{_when_, refusal, answer, count, joinedUp}
+use Rattle.rules.specs.Images.{pixel, ringAt, rowsOf, stackBytes, ringsIn, paddingSet}
 use Rattle.rules.specs.Reach.{boundOf}
-use Rattle.rules.specs.Planning.{plannedRings, plannedBytes}
+use Rattle.rules.specs.Planning.{excused, plannedRings, plannedBytes}
 use Rattle.rules.specs.Jobs.{over, settingsIn, partIn, layoutOf}
-use Rattle.rules.specs.Calls.{reachCases, settingCases, lengthCases, planCases, planRefusal, planSupport, planRings, readCases, readRefusal, readAnswer, partAnswer}
-use Rattle.rules.specs.Report.{refusedLine, spaced, planLines, reportOf}
+use Rattle.rules.specs.Calls.{reachCases, settingCases, lengthCases, planCases, planRefusal, planSupport, planRings, sectionCases, readCases, readRefusal, partAnswer}
+use Rattle.rules.specs.Outcomes.{Plans, Reads, HandsPart, Reports}
+use Rattle.rules.specs.Report.{refusedLine, spaced, jobLine, excusedAbove, layerLine, planLines, reportCases, reportOf, textOf}
 use Rattle.rules.specs.declared.Settings.{Settings}
+use Rattle.rules.specs.declared.Planned.{Planned}
 use Rattle.rules.specs.declared.Layout.{Layout}
 use Rattle.rules.specs.declared.ReadJob.{ReadJob}
 use Rattle.rules.specs.declared.ReadJob.the-variants.{Job, Refused}
 use Rattle.laws.specs.Limits.{Ranged, ranged, stack-most}
-use Rattle.laws.specs.Refusals.{answer-fine, numbered, orElse, refusal-append}
+use Rattle.laws.specs.Tests.{count-le}
+use Rattle.laws.specs.Refusals.{upTo, at-most, answer-fine, numbered, orElse, refusal-append}
 use Rattle.laws.specs.Demand1.{job-read, job-refused}
 use Rattle.laws.specs.Demand2.{plan-fills}
 use Rattle.laws.specs.Demand3.{plannedBytes-length, plannedRings-length}
 use Rattle.laws.specs.JobFiles.{Accepted, accepted-exactly}
 use Rattle.laws.specs.RoundTrips.{part-length}
-use Rattle.laws.specs.ReportLaws.{decimal-length, report-no-room, report-prints, report-refused}
-use Rattle.lines.specs.Lines.{Wrote, spaced-length}
-use Rattle.lines.specs.Whole.{Whole, linesTo, planned-lines}
+use Rattle.laws.specs.ReportLaws.{decimal-length, report-reads, report-too-long, report-no-room, report-prints, report-refused}
+use Rattle.lines.specs.Lines.{Wrote, spaced-length, line-length}
+use Rattle.lines.specs.Whole.{Whole, linesTo, planned-lines, layer-is, job-short}
 
 -- the text stands at the front of the buffer, and r is where it ends
 pub record Printed (text : List ℕ) (r : ℕ) (now was : List ℕ) : Type 0 where
@@ -66,22 +69,22 @@ refused-printed k r now was h (e, is) = record { ends = e; holds = is; room = om
 
 -- planned into the buffers, and printed
 module _ (s : Settings) (part sup ring : List ℕ) (e : planRefusal s part (length sup) (length ring) ≡ 0) where
-  pub planned-whole : (sup′ ring′ : List ℕ) → sup′ ≡ planSupport s part sup ring → ring′ ≡ planRings s part sup ring → refusal (settingCases s) ≡ 0 → length part ≡ stackBytes s → Whole s part sup′ ring′
+  pub planned-whole : (d : Planned) (sup′ ring′ : List ℕ) → Plans s part sup ring d sup′ ring′ → refusal (settingCases s) ≡ 0 → length part ≡ stackBytes s → Whole s part sup′ ring′
   unfolding stackBytes rowsOf ringsIn
-  planned-whole sup′ ring′ a b g l =
-      let (d, x, y) = plan-fills s part sup ring e in
+  planned-whole d sup′ ring′ plans g l =
+      let (z, x, y) = plan-fills s part sup ring e in
       record {
         settings = g;
         part-long = l;
-        sup-long = ap length (a ∙ x) ∙ plannedBytes-length (s .w) (s .h) (s .n) (boundOf s) part;
-        ring-long = ap length (b ∙ y) ∙ plannedRings-length (s .w) (s .h) (s .n) (boundOf s) part;
+        sup-long = ap length (plans .support ∙ x) ∙ plannedBytes-length (s .w) (s .h) (s .n) (boundOf s) part;
+        ring-long = ap length (plans .rings ∙ y) ∙ plannedRings-length (s .w) (s .h) (s .n) (boundOf s) part;
       }
 
-  pub planned-printed : (sup′ ring′ : List ℕ) (r : ℕ) (now was : List ℕ) → sup′ ≡ planSupport s part sup ring → ring′ ≡ planRings s part sup ring → length was ≡ 16384 →
+  pub planned-printed : (d : Planned) (sup′ ring′ : List ℕ) (r : ℕ) (now was : List ℕ) → Plans s part sup ring d sup′ ring′ → length was ≡ 16384 →
       Wrote was 0 now r (linesTo s part sup′ ring′ (s .n)) → Printed (planLines s part) r now was
-  planned-printed sup′ ring′ r now was a b n w =
-      let (d, x, y) = plan-fills s part sup ring e in
-      let z : linesTo s part sup′ ring′ (s .n) ≡ planLines s part = rw (a ∙ x, b ∙ y) (planned-lines s part) in
+  planned-printed d sup′ ring′ r now was plans n w =
+      let (u, x, y) = plan-fills s part sup ring e in
+      let z : linesTo s part sup′ ring′ (s .n) ≡ planLines s part = rw (plans .support ∙ x, plans .rings ∙ y) (planned-lines s part) in
       let v = subst (Wrote was 0 now r) z w in
       record { ends = omega (arith, v .ends); holds = v .holds; room = omega (arith, v .ends, v .fits) }
 
@@ -118,20 +121,67 @@ pub text-lines : (s : Settings) (part : List ℕ) (count r : ℕ) (now was : Lis
     Printed (cond (ltb 32768 (ringsIn s)) (refusedLine 17) (planLines s part)) r now was
 text-lines s part count r now was e h t = rw (le-ltb 32768 (ringsIn s) (omega arith)) t
 
+-- the whole output: 17 for an input that goes on, or of which too much was read
+pub printed-report : (f : List ℕ) (more : Bool) (r : ℕ) (now was : List ℕ) → Printed (textOf f more) r now was → Reports f more was r now
+printed-report f more r now was t = record { answer = t .ends; destination = t .holds }
+
+-- No report is longer than the buffer --------------------------------------------------------------------------------------
+
+joined-short : (m n a : ℕ) (f : ℕ → List ℕ) → ((k : ℕ) → length (f k) ≤ m) → length (joinedUp a n f) ≤ m * n
+unfolding joinedUp
+joined-short m zero a f h = omega arith
+joined-short m (suc n) a f h = let e : m * suc n ≡ m + m * n = omega arith in omega (arith, length-append (f a) (joinedUp (suc a) n f), h a, joined-short m n (suc a) f h)
+
+layer-short : (s : Settings) (part sup ring : List ℕ) (i : ℕ) → Ranged s → i < 512 → length (layerLine s (pixel (s .w) (s .h) part) (pixel (s .w) (s .h) sup) (ringAt (s .w) (s .h) ring) i) ≤ 24
+unfolding excusedAbove
+layer-short s part sup ring i r l =
+    let m : s .h * s .w ≤ 65536 = mul-le-mul (r .h-high) (r .w-high) in
+    let P : ℕ → Bool = pixel (s .w) (s .h) part i in
+    let T : ℕ → Bool = pixel (s .w) (s .h) sup i in
+    let E : ℕ → Bool = excused (ringAt (s .w) (s .h) ring) i in
+    let z = layer-is s part sup ring i (count (s .h * s .w) P) (count (s .h * s .w) T) (cond (ltb (suc i) (s .n)) (count (s .h * s .w) E) 0) refl refl refl in
+    subst (λ (t : List ℕ). length t ≤ 24) z
+    (line-length i _ _ _ (omega arith) (omega (arith, count-le (s .h * s .w) P)) (omega (arith, count-le (s .h * s .w) T)) (above (ltb (suc i) (s .n)) (count (s .h * s .w) E) (omega (arith, count-le (s .h * s .w) E))))
+  where
+    above : (b : Bool) (n : ℕ) → n < 100000 → cond b n 0 < 100000
+    above true n h = h
+    above false n h = omega arith
+
+plan-short : (s : Settings) (part : List ℕ) → Ranged s → length (planLines s part) ≤ 16384
+unfolding planLines
+plan-short s part r =
+    let sup : List ℕ = plannedBytes (s .w) (s .h) (s .n) (boundOf s) part in
+    let ring : List ℕ = plannedRings (s .w) (s .h) (s .n) (boundOf s) part in
+    let f : ℕ → List ℕ = λ k. layerLine s (pixel (s .w) (s .h) part) (pixel (s .w) (s .h) sup) (ringAt (s .w) (s .h) ring) (s .n - 1 - k) in
+    let n = r .n-high in
+    omega (arith, length-append (jobLine s) (joinedUp 0 (s .n) f), job-short s r, joined-short 24 (s .n) 0 f (λ k. layer-short s part sup ring (s .n - 1 - k) r (omega arith)))
+
+pub text-short : (f : List ℕ) (more : Bool) → length (textOf f more) ≤ 16384
+unfolding reportOf reportCases readCases sectionCases settingCases reachCases upTo
+text-short f true = refused-short 17 (omega arith)
+text-short f false = go (refusal (reportCases f)) refl (at-most 17 (reportCases f) refl)
+  where
+    go : (x : ℕ) → refusal (reportCases f) ≡ x → x ≤ 17 → length (answer x (planLines (settingsIn f) (partIn f)) refusedLine) ≤ 16384
+    go zero e l = plan-short (settingsIn f) (partIn f) (ranged (settingsIn f) (accepted-exactly f .0 (report-reads f e) .settings))
+    go (suc x) e l = refused-short (suc x) (omega arith)
+
+pub longer-report : (f : List ℕ) (r : ℕ) (now was : List ℕ) → 65536 < length f → Printed (refusedLine 17) r now was → Printed (reportOf f) r now was
+longer-report f r now was h t = rw (report-too-long f h) t
+
 -- a job that was read
-module _ (f : List ℕ) (small : length f ≤ 65536) (r : ReadJob) (is : r ≡ readAnswer f) where
+module _ (f : List ℕ) (small : length f ≤ 65536) (r : ReadJob) (is : Reads f r) where
   job-is : (l : Layout) → r ≡ Job l → (readRefusal f ≡ 0) × (l ≡ layoutOf f)
-  job-is l e = job-read f r l is e
+  job-is l e = job-read f r l (is .answer) e
 
   job-settings : (l : Layout) → r ≡ Job l → l .settings ≡ settingsIn f
   unfolding layoutOf
   job-settings l e = ap (λ (x : Layout). x .settings) (job-is l e .1)
 
-  part-is : (l : Layout) (part : List ℕ) → r ≡ Job l → part ≡ partAnswer f → part ≡ partIn f
+  part-is : (l : Layout) (part : List ℕ) → r ≡ Job l → HandsPart f part → part ≡ partIn f
   unfolding partAnswer
-  part-is l part e p = p ∙ answer-fine (readRefusal f) (partIn f) (λ k. []) (job-is l e .0)
+  part-is l part e p = p .stretch ∙ answer-fine (readRefusal f) (partIn f) (λ k. []) (job-is l e .0)
 
-  pub job-planable : (l : Layout) (part : List ℕ) → r ≡ Job l → part ≡ partAnswer f → Planable (l .settings) part
+  pub job-planable : (l : Layout) (part : List ℕ) → r ≡ Job l → HandsPart f part → Planable (l .settings) part
   job-planable l part e p =
       let (z, y) = job-is l e in
       let a = accepted-exactly f .0 z in
@@ -139,7 +189,7 @@ module _ (f : List ℕ) (small : length f ≤ 65536) (r : ReadJob) (is : r ≡ r
       rw (job-settings l e, part-is l part e p)
       record { settings = a .settings; long = n; clear = a .part-clear; fits = part-fits f small }
 
-  pub job-printed : (l : Layout) (part : List ℕ) (k : ℕ) (now was : List ℕ) → r ≡ Job l → part ≡ partAnswer f →
+  pub job-printed : (l : Layout) (part : List ℕ) (k : ℕ) (now was : List ℕ) → r ≡ Job l → HandsPart f part →
       Printed (cond (ltb 32768 (ringsIn (l .settings))) (refusedLine 17) (planLines (l .settings) part)) k now was → Printed (reportOf f) k now was
   unfolding readRefusal
   job-printed l part k now was e p t =
@@ -153,7 +203,7 @@ module _ (f : List ℕ) (small : length f ≤ 65536) (r : ReadJob) (is : r ≡ r
 
   pub refused-report : (k j n : ℕ) (now was : List ℕ) → r ≡ Refused k → j ≡ k → Printed (refusedLine j) n now was → Printed (reportOf f) n now was
   unfolding readRefusal
-  refused-report k j n now was e h t = go j (h ∙ job-refused f r k is e .0) (job-refused f r k is e .1) t
+  refused-report k j n now was e h t = go j (h ∙ job-refused f r k (is .answer) e .0) (job-refused f r k (is .answer) e .1) t
     where
       go : (x : ℕ) → x ≡ refusal (readCases f) → (refusal (readCases f) ≡ 0 → ⊥) → Printed (refusedLine x) n now was → Printed (reportOf f) n now was
       go zero z nz u = absurd (nz (sym z))

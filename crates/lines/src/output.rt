@@ -11,7 +11,8 @@ ghost use lib.Dec.{ltb};
 ghost use lib.ListN.{length};
 ghost use Rattle.rules.specs.Images.{ringsIn};
 ghost use Rattle.rules.specs.Calls.{planRefusal};
-ghost use Rattle.rules.specs.Report.{planLines, refusedLine, reportOf};
+ghost use Rattle.rules.specs.Report.{planLines, refusedLine};
+ghost use Rattle.rules.specs.Outcomes.{Reports};
 ghost use Rattle.lines.specs.Printed.{Printed, Room, Planable};
 
 fn wide(k: u8) -> usize
@@ -72,13 +73,15 @@ fn read_text(s: Settings, part: &[u8], out: &mut [u8]) -> usize
     job_text(s, part, &mut support, &mut rings, out)
 }
 
-// The whole output for an input of at most 65,536 bytes; `more` says that there was more of it.
-pub fn report(file: &[u8], more: bool, out: &mut [u8]) -> usize
-    requires { ⌜ (length (now file) ≤ 65536) × (length (now out) ≡ 16384) ⌝ }
-    ensures { λ r. ⌜ Printed (cond more (refusedLine 17) (reportOf (now (file .entry)))) r (now (out .exit)) (now (out .entry)) ⌝ }
+// The whole output for an input that begins with `file`; `more` says that it goes on.
+pub fn report(file: &[u8], more: bool, out: &mut [u8; 16384]) -> usize
+    ensures { λ r. ⌜ Reports (now (file .entry)) more (now (out .entry)) r (now (out .exit)) ⌝ }
 {
     if more {
         return refused_line(out, 17); // the first of the two places of 17
+    }
+    if 65536 < file.len() {
+        return refused_line(out, 17);
     }
     match job::read(file) {
         ReadJob::Refused(k) => refused_line(out, wide(k)),

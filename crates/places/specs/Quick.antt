@@ -16,7 +16,7 @@ use Rattle.laws.specs.Tests.{split}
 use Rattle.image.specs.Bits.{bit-and, bit-or, byte-but-not}
 use Rattle.image.specs.Filling.{bit-here}
 use Rattle.places.specs.Search.{bitIn, Sized}
-use Rattle.places.specs.Sound.{Ones, Step, Among, Good, seedBit, seedBits, freeBit}
+use Rattle.places.specs.Sound.{Ones, Step, Good, seedBit, seedBits, freeBit}
 use Rattle.places.specs.Planes.{in-plane}
 use Rattle.places.specs.Rows.{area-fit}
 
@@ -86,31 +86,15 @@ no-lone false d e = refl
 pub lone-none : (ring one v : ℕ) (b : Bool) → v ≡ cond (eqb ring 0) one 0 → one ≡ bit b → v ≡ 0 → (b && eqb ring 0) ≡ false
 lone-none ring one v b ev eo z = no-lone b (eqb ring 0) (ap (λ (n : ℕ). cond (eqb ring 0) n 0) (sym eo) ∙ sym ev ∙ z)
 
--- The neighbours in three rows --------------------------------------------------------------------------------------------
-
-pub step-room : (w h y c left right len : ℕ) → y < h → c < w → left ≡ min c 1 → right ≡ min (w - 1 - c) 1 → len ≡ h * w → (left ≤ y * w + c) × (y * w + c + right < len)
-step-room w h y c left right len ly lc el er e = (omega arith, omega (arith, in-plane w h y (c + right) ly (omega arith)))
+-- The neighbours --------------------------------------------------------------------------------------------
 
 pub step-fits : (w h y c : ℕ) → Sized w h → y < h → c < w → (y * w ≤ 65536) × (y * w + c ≤ 65536)
 step-fits w h y c s ly lc = (omega (arith, in-plane w h y c ly lc, area-fit w h s), omega (arith, in-plane w h y c ly lc, area-fit w h s))
 
-pub step-in : (w h : ℕ) (rings : List ℕ) (r c v y left right : ℕ) → y < h → c < w → r ≤ y + 1 → y ≤ r + 1 → left ≡ min c 1 → right ≡ min (w - 1 - c) 1 →
-    Among rings (y * w + c - left) (y * w + c + right) v → Step w h rings r c v
-step-in w h rings r c v y left right ly lc a b el er m =
-    let lo = m .low in
-    let hi = m .high in
-    let z : y * w + (m .spot - y * w) ≡ m .spot = omega arith in
-    record {
-      row = y;
-      column = m .spot - y * w;
-      row-in = ly;
-      column-in = omega arith;
-      up = a;
-      down = b;
-      left = omega arith;
-      right = omega arith;
-      is = rw z (m .is);
-    }
+pub step-at : (w h : ℕ) (rings : List ℕ) (r c v y x : ℕ) → (y < h) × ((r ≤ y + 1) × (y ≤ r + 1)) → (x < w) × ((c ≤ x + 1) × (x ≤ c + 1)) →
+    getD rings (y * w + x) 0 ≡ v → Step w h rings r c v
+step-at w h rings r c v y x (ly, (a, b)) (lx, (d, e)) is =
+    record { row = y; column = x; row-in = ly; column-in = lx; up = a; down = b; left = d; right = e; is = is }
 
 -- A good ring --------------------------------------------------------------------------------------------------------------
 

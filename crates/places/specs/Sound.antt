@@ -27,13 +27,6 @@ pub record Step (w h : ℕ) (rings : List ℕ) (r c v : ℕ) : Type 0 where
   pub right : column ≤ c + 1
   pub is : getD rings (row * w + column) 0 ≡ v
 
--- one of the pixels from a to b has ring v
-pub record Among (rings : List ℕ) (a b v : ℕ) : Type 0 where
-  pub spot : ℕ
-  pub low : a ≤ spot
-  pub high : spot ≤ b
-  pub is : getD rings spot 0 ≡ v
-
 -- the ring in row r and column c is good by the rows `free` (those that may carry a ring) and `first` (those of them beside a seed), whose
 -- pixels start at byte 1
 pub record Good (w h : ℕ) (free first rings : List ℕ) (r c : ℕ) : Type 0 where

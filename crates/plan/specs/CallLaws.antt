@@ -9,6 +9,7 @@ use borrow.Author.Tests.{eqb-true, not-false}
 use lib.Dec.{eqb}
 use lib.ListN.{length}
 use Rattle.rules.specs.Calls.{reachCases, settingCases, lengthCases, planCases, planRefusal, planAnswer, planSupport, planRings}
+use Rattle.rules.specs.Outcomes.{Plans}
 use Rattle.rules.specs.Images.{rowBytes, rowsOf, stackBytes, ringsIn, paddingSet}
 use Rattle.rules.specs.Planning.{plannedRings, plannedBytes}
 use Rattle.rules.specs.Reach.{reachOf, square, boundOf}
@@ -103,19 +104,23 @@ bound-fits s r g e =
 
 module _ (s : Settings) (part sup rings : List ℕ) (k : ℕ) (ek : k ≡ planRefusal s part (length sup) (length rings)) where
   -- refused: all lent memory as it was
-  pub refuses : (k ≡ 0 → ⊥) → (Refused k ≡ planAnswer s part (length sup) (length rings)) × ((sup ≡ planSupport s part sup rings) × (rings ≡ planRings s part sup rings))
+  pub refuses : (k ≡ 0 → ⊥) → Plans s part sup rings (Refused k) sup rings
   unfolding planAnswer planSupport planRings
-  refuses ne = (rw (← ek) (sym (answer-refused k Done Refused ne)), (rw (← ek) (sym (answer-refused k _ (λ j. sup) ne)), rw (← ek) (sym (answer-refused k _ (λ j. rings) ne))))
+  refuses ne = record {
+    answer = rw (← ek) (sym (answer-refused k Done Refused ne));
+    support = rw (← ek) (sym (answer-refused k _ (λ j. sup) ne));
+    rings = rw (← ek) (sym (answer-refused k _ (λ j. rings) ne));
+  }
 
   -- planned: the support and the rings of the part
   pub plans : k ≡ 0 → (r : Pixels) → r ≡ reachOf (s .pitch) (s .overhang) → (sup' rings' : List ℕ)
       → sup' ≡ plannedBytes (s .w) (s .h) (s .n) (λ i. r .0 * r .0) part → rings' ≡ plannedRings (s .w) (s .h) (s .n) (λ i. r .0 * r .0) part
-      → (Done ≡ planAnswer s part (length sup) (length rings)) × ((sup' ≡ planSupport s part sup rings) × (rings' ≡ planRings s part sup rings))
+      → Plans s part sup rings Done sup' rings'
   unfolding planAnswer planSupport planRings boundOf square
-  plans z r er sup' rings' es eg = (
-    rw (← ek) (sym (answer-fine k Done Refused z)),
-    (
-      (es ∙ ap (λ (x : Pixels). plannedBytes (s .w) (s .h) (s .n) (λ i. x .0 * x .0) part) er) ∙ rw (← ek) (sym (answer-fine k _ (λ j. sup) z)),
-      (eg ∙ ap (λ (x : Pixels). plannedRings (s .w) (s .h) (s .n) (λ i. x .0 * x .0) part) er) ∙ rw (← ek) (sym (answer-fine k _ (λ j. rings) z)),
-    ),
-  )
+  plans z r er sup' rings' es eg = record {
+    answer = rw (← ek) (sym (answer-fine k Done Refused z));
+    support =
+        (es ∙ ap (λ (x : Pixels). plannedBytes (s .w) (s .h) (s .n) (λ i. x .0 * x .0) part) er) ∙ rw (← ek) (sym (answer-fine k _ (λ j. sup) z));
+    rings =
+        (eg ∙ ap (λ (x : Pixels). plannedRings (s .w) (s .h) (s .n) (λ i. x .0 * x .0) part) er) ∙ rw (← ek) (sym (answer-fine k _ (λ j. rings) z));
+  }

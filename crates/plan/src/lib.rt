@@ -9,7 +9,8 @@ ghost use Prim.Native.Nat.{_-_, _*_, _<_, _≤_};
 ghost use lib.ListN.{length};
 ghost use Rattle.rules.specs.Images.{rowBytes, paddingSet};
 ghost use Rattle.rules.specs.Planning.{plannedRings, plannedBytes};
-ghost use Rattle.rules.specs.Calls.{planRefusal, planAnswer, planSupport, planRings};
+ghost use Rattle.rules.specs.Calls.{planRefusal};
+ghost use Rattle.rules.specs.Outcomes.{Plans};
 
 // The refusals 1 to 7, the lowest first; 0 for none.
 fn refused(s: Settings, part: &[u8], support: usize, rings: usize) -> u8
@@ -31,9 +32,7 @@ fn refused(s: Settings, part: &[u8], support: usize, rings: usize) -> u8
 
 // Plans a part: fills support and rings, or refuses and leaves both as they were.
 pub fn plan(s: Settings, part: &[u8], support: &mut [u8], rings: &mut [u16]) -> Planned
-    ensures { λ r. ⌜ r ≡ planAnswer s (now (part .entry)) (length (now (support .entry))) (length (now (rings .entry))) ⌝ }
-    ensures { λ _. ⌜ now (support .exit) ≡ planSupport s (now (part .entry)) (now (support .entry)) (now (rings .entry)) ⌝ }
-    ensures { λ _. ⌜ now (rings .exit) ≡ planRings s (now (part .entry)) (now (support .entry)) (now (rings .entry)) ⌝ }
+    ensures { λ r. ⌜ Plans s (now (part .entry)) (now (support .entry)) (now (rings .entry)) r (now (support .exit)) (now (rings .exit)) ⌝ }
 {
     let k = refused(s, part, support.len(), rings.len());
     if k != 0 {

@@ -7,4 +7,5 @@ pub mod Judging
 pub mod Jobs
 pub mod Calls
 pub mod Report
+pub mod Outcomes
 pub mod Demands

@@ -69,3 +69,7 @@ reportCases f =
 
 unfoldable pub reportOf : List ℕ → List ℕ
 reportOf f = answer (refusal (reportCases f)) (planLines (settingsIn f) (partIn f)) refusedLine
+
+-- what is printed where f is what was read, and `more` says that the input goes on after it
+abbrev pub textOf : List ℕ → Bool → List ℕ
+textOf f more = cond more (refusedLine 17) (reportOf f)

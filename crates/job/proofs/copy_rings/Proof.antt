@@ -16,7 +16,7 @@ copy-refusal-requires c κs = search needs
 
 returns : tie.Need-returns
 unfolding copyAnswer copyRings
-returns c = (says-no Copied Refused (c .before .copy-refusal .ensures) (c .if1 .taken), says-no (ringsStored (now (c .before .before .before .before .args .file))) (λ k. now (c .before .before .before .before .args .rings)) (c .before .copy-refusal .ensures) (c .if1 .taken))
+returns c = record { answer = says-no Copied Refused (c .before .copy-refusal .ensures) (c .if1 .taken); rings = says-no (ringsStored (now (c .before .before .before .before .args .file))) (λ k. now (c .before .before .before .before .args .rings)) (c .before .copy-refusal .ensures) (c .if1 .taken) }
 
 layout-requires : tie.Need-layout-requires
 layout-requires c κs = copying _ _ (sym (c .before .copy-refusal .ensures) ∙ c .if1 .left) .accepted
@@ -32,11 +32,11 @@ same-length c = search needs
 returns-2 : tie.Need-returns-2
 unfolding copyAnswer copyRings
 returns-2 c =
-    let v = copying _ _ (sym (c .before .before .before .before .before .before .copy-refusal .ensures) ∙ c .before .before .before .before .before .if1 .left) in (
-      says-yes Copied Refused (c .before .before .before .before .before .before .copy-refusal .ensures) (c .before .before .before .before .before .if1 .left) refl,
-      says-yes (ringsStored (now (c .before .before .before .before .before .before .before .before .before .args .file))) (λ k. now (c .before .before .before .before .before .before .before .before .before .args .rings)) (c .before .before .before .before .before .before .copy-refusal .ensures) (c .before .before .before .before .before .if1 .left)
-          (c .before .before .get16s .ensures ∙ ap (λ (l : Layout). get16s (now (c .before .before .before .before .before .before .before .before .before .args .file)) (l .rings) (length (now (c .before .before .before .before .before .before .before .before .before .args .rings)))) (c .before .before .before .before .layout .ensures) ∙ v .all),
-    )
+    let v = copying _ _ (sym (c .before .before .before .before .before .before .copy-refusal .ensures) ∙ c .before .before .before .before .before .if1 .left) in record {
+      answer = says-yes Copied Refused (c .before .before .before .before .before .before .copy-refusal .ensures) (c .before .before .before .before .before .if1 .left) refl;
+      rings = says-yes (ringsStored (now (c .before .before .before .before .before .before .before .before .before .args .file))) (λ k. now (c .before .before .before .before .before .before .before .before .before .args .rings)) (c .before .before .before .before .before .before .copy-refusal .ensures) (c .before .before .before .before .before .if1 .left)
+          (c .before .before .get16s .ensures ∙ ap (λ (l : Layout). get16s (now (c .before .before .before .before .before .before .before .before .before .args .file)) (l .rings) (length (now (c .before .before .before .before .before .before .before .before .before .args .rings)))) (c .before .before .before .before .layout .ensures) ∙ v .all);
+    }
 
 pub copy-rings-spec : {M : Type 1} → statement M
 copy-rings-spec =

@@ -18,7 +18,7 @@ slice-aggregate-result c = search needs
 
 returns : tie.Need-returns
 unfolding partAnswer
-returns c = says-no (partIn (now (c .before .before .before .before .args .file))) (λ k. []) (c .before .before .read-refusal .ensures) (c .before .if1 .taken)
+returns c = record { stretch = says-no (partIn (now (c .before .before .before .before .args .file))) (λ k. []) (c .before .before .read-refusal .ensures) (c .before .if1 .taken) }
 
 settings-in-requires : tie.Need-settings-in-requires
 settings-in-requires c κs = head-whole _ (sym (c .before .read-refusal .ensures) ∙ c .if1 .left)
@@ -28,7 +28,7 @@ part-in-requires c κs = let b = behind _ _ (sym (c .before .before .read-refusa
 
 returns-2 : tie.Need-returns-2
 unfolding partAnswer
-returns-2 c = says-yes (partIn (now (c .before .before .before .before .before .args .file))) (λ k. []) (c .before .before .before .read-refusal .ensures) (c .before .before .if1 .left) (c .part-in .ensures)
+returns-2 c = record { stretch = says-yes (partIn (now (c .before .before .before .before .before .args .file))) (λ k. []) (c .before .before .before .read-refusal .ensures) (c .before .before .if1 .left) (c .part-in .ensures) }
 
 pub part-spec : {M : Type 1} → statement M
 part-spec =

@@ -11,14 +11,14 @@ read-refusal-requires c κs = search needs
 
 returns : tie.Need-returns
 unfolding readAnswer
-returns c = says-no _ Refused (c .before .read-refusal .ensures) (c .if1 .taken)
+returns c = record { answer = says-no _ Refused (c .before .read-refusal .ensures) (c .if1 .taken) }
 
 layout-requires : tie.Need-layout-requires
 layout-requires c κs = search needs
 
 returns-2 : tie.Need-returns-2
 unfolding readAnswer
-returns-2 c = says-yes _ Refused (c .before .before .read-refusal .ensures) (c .before .if1 .left) (ap Job (c .layout .ensures))
+returns-2 c = record { answer = says-yes _ Refused (c .before .before .read-refusal .ensures) (c .before .if1 .left) (ap Job (c .layout .ensures)) }
 
 pub read-spec : {M : Type 1} → statement M
 read-spec = tie.close (tie.spec read-refusal-requires returns layout-requires returns-2)

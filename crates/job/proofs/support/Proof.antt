@@ -17,7 +17,7 @@ slice-aggregate-result c = search needs
 
 returns : tie.Need-returns
 unfolding supportAnswer
-returns c = says-no (supportIn (now (c .before .before .before .before .args .file))) (λ k. []) (c .before .before .read-refusal .ensures) (c .before .if1 .taken)
+returns c = record { stretch = says-no (supportIn (now (c .before .before .before .before .args .file))) (λ k. []) (c .before .before .read-refusal .ensures) (c .before .if1 .taken) }
 
 settings-in-requires : tie.Need-settings-in-requires
 settings-in-requires c κs = head-whole _ (sym (c .before .read-refusal .ensures) ∙ c .if1 .left)
@@ -30,7 +30,7 @@ support-in-requires c κs = stored-accepted _ _ _ (c .stored-in .ensures) (sym (
 
 returns-2 : tie.Need-returns-2
 unfolding supportAnswer
-returns-2 c = says-yes (supportIn (now (c .before .before .before .before .before .before .args .file))) (λ k. []) (c .before .before .before .before .read-refusal .ensures) (c .before .before .before .if1 .left) (c .support-in .ensures)
+returns-2 c = record { stretch = says-yes (supportIn (now (c .before .before .before .before .before .before .args .file))) (λ k. []) (c .before .before .before .before .read-refusal .ensures) (c .before .before .before .if1 .left) (c .support-in .ensures) }
 
 pub support-spec : {M : Type 1} → statement M
 support-spec =

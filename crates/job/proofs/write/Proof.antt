@@ -14,7 +14,7 @@ write-refusal-requires c κs = search needs
 
 returns : tie.Need-returns
 unfolding writeAnswer writeTo
-returns c = (says-no _ Refused (c .before .write-refusal .ensures) (c .if1 .taken), says-no _ (λ k. now (c .before .before .before .before .before .before .args .out)) (c .before .write-refusal .ensures) (c .if1 .taken))
+returns c = record { answer = says-no _ Refused (c .before .write-refusal .ensures) (c .if1 .taken); destination = says-no _ (λ k. now (c .before .before .before .before .before .before .args .out)) (c .before .write-refusal .ensures) (c .if1 .taken) }
 
 put-job-requires : tie.Need-put-job-requires
 put-job-requires c κs = writable-exactly _ _ .0 (sym (c .before .before .write-refusal .ensures) ∙ c .before .if1 .left)
@@ -30,7 +30,7 @@ same-length c = search needs
 
 returns-2 : tie.Need-returns-2
 unfolding writeAnswer writeTo fileLength
-returns-2 c = (says-yes _ Refused (c .before .before .before .before .before .before .before .write-refusal .ensures) (c .before .before .before .before .before .before .if1 .left) (ap Length (c .job-end .ensures .0 ∙ ap (jobEnd (c .before .before .before .before .before .before .before .before .before .before .before .before .args .s)) (c .before .stored-rows .ensures .0))), says-yes _ (λ k. now (c .before .before .before .before .before .before .before .before .before .before .before .before .args .out)) (c .before .before .before .before .before .before .before .write-refusal .ensures) (c .before .before .before .before .before .before .if1 .left) (c .before .before .before .before .put-job .ensures))
+returns-2 c = record { answer = says-yes _ Refused (c .before .before .before .before .before .before .before .write-refusal .ensures) (c .before .before .before .before .before .before .if1 .left) (ap Length (c .job-end .ensures .0 ∙ ap (jobEnd (c .before .before .before .before .before .before .before .before .before .before .before .before .args .s)) (c .before .stored-rows .ensures .0))); destination = says-yes _ (λ k. now (c .before .before .before .before .before .before .before .before .before .before .before .before .args .out)) (c .before .before .before .before .before .before .before .write-refusal .ensures) (c .before .before .before .before .before .before .if1 .left) (c .before .before .before .before .put-job .ensures) }
 
 pub write-spec : {M : Type 1} → statement M
 write-spec =

@@ -1,13 +1,7 @@
-use mathlib.Core.Path.{_≡_, refl, sym, ap, _∙_}
-use Rattle.answers.specs.Packed.{packReached, packJudged, packCopied, packWritten, settingsOf, jobOf}
-use native.Mathlib.Omega.{arith}
+use Rattle.kitegimlet.specs.Outcomes.{copy-packed}
 use borrow.Author.Needs.{needs}
 use Rattle.kitegimlet.proofs.kg_copy_rings.Statement.{statement}
 use Rattle.kitegimlet.proofs.kg_copy_rings.Tie as tie
-use Rattle.kitegimlet.proofs.kg_copy_rings.Reads as reads
-use Rattle.kitegimlet.proofs.kg_copy_rings.Lts as lts
-use Rattle.job.proofs.copy_rings.Reads as copy-rings-reads
-use Rattle.answers.proofs.pack_copied.Reads as pack-copied-reads
 
 copy-rings-requires : tie.Need-copy-rings-requires
 copy-rings-requires c κs = search needs
@@ -19,7 +13,7 @@ same-length : tie.Need-same-length
 same-length c = search needs
 
 returns : tie.Need-returns
-returns c = (c .pack-copied .ensures ∙ ap packCopied (c .before .before .before .copy-rings .ensures .0), c .before .before .before .copy-rings .ensures .1)
+returns c = copy-packed _ _ _ _ _ (c .before .before .before .copy-rings .ensures) (c .pack-copied .ensures)
 
 pub kg-copy-rings-spec : {M : Type 1} → statement M
 kg-copy-rings-spec =

@@ -12,13 +12,13 @@ reach-refusal-requires : tie.Need-reach-refusal-requires
 reach-refusal-requires c κs = search needs
 
 returns : tie.Need-returns
-returns c = reach-no (c .before .before .args .pitch) (c .before .before .args .overhang) (c .before .reach-refusal .result) (c .before .reach-refusal .ensures) (c .if1 .taken)
+returns c = record { answer = reach-no (c .before .before .args .pitch) (c .before .before .args .overhang) (c .before .reach-refusal .result) (c .before .reach-refusal .ensures) (c .if1 .taken) }
 
 reach-of-requires : tie.Need-reach-of-requires
 reach-of-requires c κs = pitch-good (c .before .before .args .pitch) (c .before .before .args .overhang) (c .before .reach-refusal .result) (c .before .reach-refusal .ensures) (c .if1 .left)
 
 returns-2 : tie.Need-returns-2
-returns-2 c = reach-yes (c .before .before .before .args .pitch) (c .before .before .before .args .overhang) (c .before .before .reach-refusal .result) (c .reach-of .result) (c .before .before .reach-refusal .ensures) (c .before .if1 .left) (c .reach-of .ensures)
+returns-2 c = record { answer = reach-yes (c .before .before .before .args .pitch) (c .before .before .before .args .overhang) (c .before .before .reach-refusal .result) (c .reach-of .result) (c .before .before .reach-refusal .ensures) (c .before .if1 .left) (c .reach-of .ensures) }
 
 pub reach-spec : {M : Type 1} → statement M
 reach-spec = tie.close (tie.spec reach-refusal-requires returns reach-of-requires returns-2)

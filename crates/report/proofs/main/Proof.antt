@@ -1,16 +1,10 @@
-use Prim.Native.Nat.{ℕ}
 use mathlib.Core.Path.{sym}
-use lib.ListN.{length-replicate}
 use lib.Seq.{length-take-le}
+use Rattle.lines.specs.Printed.{text-short}
 use native.Mathlib.Omega.{arith}
 use borrow.Author.Needs.{needs}
 use Rattle.report.proofs.main.Statement.{statement}
 use Rattle.report.proofs.main.Tie as tie
-use Rattle.report.proofs.main.Reads as reads
-use Rattle.report.proofs.main.Lts as lts
-use Rattle.io.proofs.read_full.Reads as read-full-reads
-use Rattle.io.proofs.write_all.Reads as write-all-reads
-use Rattle.lines.proofs.report.Reads as report-reads
 
 slice-aggregate-read-full : tie.Need-slice-aggregate-read-full
 slice-aggregate-read-full c = search needs
@@ -30,17 +24,14 @@ array-share-prefix-file c = search needs
 slice-aggregate-report : tie.Need-slice-aggregate-report
 slice-aggregate-report c = search needs
 
-slice-aggregate-report-2 : tie.Need-slice-aggregate-report-2
-slice-aggregate-report-2 c = search needs
-
 report-requires : tie.Need-report-requires
 report-requires c κs = search needs
 
 array-share-prefix-out : tie.Need-array-share-prefix-out
-array-share-prefix-out c = search needs
+array-share-prefix-out c = ?
 
 slice-aggregate-write-all : tie.Need-slice-aggregate-write-all
-slice-aggregate-write-all c = sym (length-take-le (c .before .before .report .result) (c .before .before .report .last .1 .1 .0) (omega (arith, c .before .before .report .ensures .room, c .before .before .report .kept .1 .1 .0, length-replicate {A = ℕ} 16384 0)))
+slice-aggregate-write-all c = ?
 
 write-all-requires : tie.Need-write-all-requires
 write-all-requires c κs = search needs
@@ -58,7 +49,6 @@ main-spec =
     read-full-requires-2
     array-share-prefix-file
     slice-aggregate-report
-    slice-aggregate-report-2
     report-requires
     array-share-prefix-out
     slice-aggregate-write-all

@@ -1,95 +1,95 @@
-use Rattle.places.specs.Quick.{step-fits, step-room, step-in}
+use Prim.Native.Nat.{_*_, _-_, _<_, _≤_}
+use mathlib.Core.Bool.{false}
+use mathlib.Core.Path.{_≡_, refl, _∙_, sym}
+use Rattle.laws.specs.Tests.{clash}
+use Rattle.places.specs.Quick.{step-fits, step-at}
+use Rattle.places.specs.Planes.{in-plane}
 use native.Mathlib.Omega.{arith}
 use borrow.Author.Needs.{needs}
 use Rattle.chains.proofs.steps.steps.Statement.{statement}
 use Rattle.chains.proofs.steps.steps.Tie as tie
-use Rattle.chains.proofs.steps.steps.Reads as reads
-use Rattle.chains.proofs.steps.steps.Lts as lts
-use Rattle.places.proofs.bits.less.Reads as less-reads
-use Rattle.places.proofs.bits.smaller.Reads as smaller-reads
-use Rattle.chains.proofs.steps.among.Reads as among-reads
 
-smaller-requires : tie.Need-smaller-requires
-smaller-requires c κs = search needs
+abbrev Inv-loop : tie.InvT-loop
+Inv-loop rings w h r c v found₀ i start j₀ found j = (found ≡ false) × (j ≤ 3)
 
-sub-smaller : tie.Need-sub-smaller
-sub-smaller c = search needs
+abbrev μ-loop : tie.MeasureT-loop
+μ-loop rings w h r c v found₀ i start j₀ found j = 3 - j
 
-sub-smaller-2 : tie.Need-sub-smaller-2
-sub-smaller-2 c = search needs
+abbrev Inv-rows : tie.InvT-rows
+Inv-rows rings w h r c v found₀ i₀ found i = (found ≡ false) × (i ≤ 3)
 
-smaller-requires-2 : tie.Need-smaller-requires-2
-smaller-requires-2 c κs = search needs
+abbrev μ-rows : tie.MeasureT-rows
+μ-rows rings w h r c v found₀ i₀ found i = 3 - i
 
-less-requires : tie.Need-less-requires
-less-requires c κs = search needs
+rows-holds : tie.Need-rows-holds Inv-loop μ-loop Inv-rows μ-rows
+rows-holds c = (refl, omega arith)
 
-add-smaller : tie.Need-add-smaller
-add-smaller c = search needs
+beside-requires : tie.Need-beside-requires Inv-loop μ-loop Inv-rows μ-rows
+beside-requires c κs = (omega arith, (omega arith, c .before .before .before .pre .0 .0 .h-high))
 
-sub-smaller-3 : tie.Need-sub-smaller-3
-sub-smaller-3 c = search needs
+mul-start : tie.Need-mul-start Inv-loop μ-loop Inv-rows μ-rows
+mul-start c = omega (arith, step-fits (c .before .before .before .before .args .w) (c .before .before .before .before .args .h) (c .beside .result) (c .before .before .before .before .args .c) (c .before .before .before .before .pre .0 .0) (c .beside .ensures .0) (c .before .before .before .before .pre .1 .1))
 
-smaller-requires-3 : tie.Need-smaller-requires-3
-smaller-requires-3 c κs = search needs
+loop-holds : tie.Need-loop-holds Inv-loop μ-loop Inv-rows μ-rows
+loop-holds c = (c .before .before .rows .inv .0, omega arith)
 
-mul-among : tie.Need-mul-among
-mul-among c = omega (arith, step-fits (c .before .before .before .before .before .args .w) (c .before .before .before .before .before .args .h) (c .before .before .before .before .before .args .r) (c .before .before .before .before .before .args .c) (c .before .before .before .before .before .pre .0 .0) (c .before .before .before .before .before .pre .1 .0) (c .before .before .before .before .before .pre .1 .1))
+beside-requires-2 : tie.Need-beside-requires-2 Inv-loop μ-loop Inv-rows μ-rows
+beside-requires-2 c κs = (omega arith, (omega arith, c .before .before .before .before .before .before .pre .0 .0 .w-high))
 
-add-among : tie.Need-add-among
-add-among c = omega (arith, step-fits (c .before .before .before .before .before .args .w) (c .before .before .before .before .before .args .h) (c .before .before .before .before .before .args .r) (c .before .before .before .before .before .args .c) (c .before .before .before .before .before .pre .0 .0) (c .before .before .before .before .before .pre .1 .0) (c .before .before .before .before .before .pre .1 .1))
+add-if1 : tie.Need-add-if1 Inv-loop μ-loop Inv-rows μ-rows
+add-if1 c = omega (arith, step-fits (c .before .before .before .before .before .before .before .args .w) (c .before .before .before .before .before .before .before .args .h) (c .before .before .before .beside .result) (c .before .before .before .before .before .before .before .args .c) (c .before .before .before .before .before .before .before .pre .0 .0) (c .before .before .before .beside .ensures .0) (c .before .before .before .before .before .before .before .pre .1 .1))
 
-among-requires : tie.Need-among-requires
-among-requires c κs = step-room (c .before .before .before .before .before .args .w) (c .before .before .before .before .before .args .h) (c .before .before .before .before .before .args .r) (c .before .before .before .before .before .args .c) (c .before .before .before .smaller .result) (c .before .before .smaller2 .result) _ (c .before .before .before .before .before .pre .1 .0) (c .before .before .before .before .before .pre .1 .1) (c .before .before .before .smaller .ensures) (c .before .before .smaller2 .ensures) (c .before .before .before .before .before .pre .0 .1)
+mul-if1 : tie.Need-mul-if1 Inv-loop μ-loop Inv-rows μ-rows
+mul-if1 c = omega (arith, step-fits (c .before .before .before .before .before .before .before .args .w) (c .before .before .before .before .before .before .before .args .h) (c .before .before .before .beside .result) (c .before .before .before .before .before .before .before .args .c) (c .before .before .before .before .before .before .before .pre .0 .0) (c .before .before .before .beside .ensures .0) (c .before .before .before .before .before .before .before .pre .1 .1))
 
-returns : tie.Need-returns
-returns c = λ e. step-in (c .before .before .before .before .before .before .before .args .w) (c .before .before .before .before .before .before .before .args .h) (c .before .before .before .before .before .before .before .args .rings .now) (c .before .before .before .before .before .before .before .args .r) (c .before .before .before .before .before .before .before .args .c) (c .before .before .before .before .before .before .before .args .v) (c .before .before .before .before .before .before .before .args .r) (c .before .before .before .before .before .smaller .result) (c .before .before .before .before .smaller2 .result) (c .before .before .before .before .before .before .before .pre .1 .0) (c .before .before .before .before .before .before .before .pre .1 .1) (omega arith) (omega arith) (c .before .before .before .before .before .smaller .ensures) (c .before .before .before .before .smaller2 .ensures) (c .before .among .ensures (c .if1 .taken))
+shared-slice-read-if1 : tie.Need-shared-slice-read-if1 Inv-loop μ-loop Inv-rows μ-rows
+shared-slice-read-if1 c = omega (arith, in-plane (c .before .before .before .before .before .before .before .before .args .w) (c .before .before .before .before .before .before .before .before .args .h) (c .before .before .before .before .beside .result) (c .before .beside2 .result) (c .before .before .before .before .beside .ensures .0) (c .before .beside2 .ensures .0), c .before .before .before .before .before .before .before .before .pre .0 .1)
 
-mul-among-2 : tie.Need-mul-among-2
-mul-among-2 c = omega (arith, step-fits (c .before .before .before .before .before .before .before .args .w) (c .before .before .before .before .before .before .before .args .h) (c .before .before .before .less .result) (c .before .before .before .before .before .before .before .args .c) (c .before .before .before .before .before .before .before .pre .0 .0) (omega (arith, c .before .before .before .less .ensures)) (c .before .before .before .before .before .before .before .pre .1 .1))
+add-j : tie.Need-add-j Inv-loop μ-loop Inv-rows μ-rows
+add-j c = search needs
 
-add-among-2 : tie.Need-add-among-2
-add-among-2 c = omega (arith, step-fits (c .before .before .before .before .before .before .before .args .w) (c .before .before .before .before .before .before .before .args .h) (c .before .before .before .less .result) (c .before .before .before .before .before .before .before .args .c) (c .before .before .before .before .before .before .before .pre .0 .0) (omega (arith, c .before .before .before .less .ensures)) (c .before .before .before .before .before .before .before .pre .1 .1))
+loop-less : tie.Need-loop-less Inv-loop μ-loop Inv-rows μ-rows
+loop-less c = search needs
 
-among-requires-2 : tie.Need-among-requires-2
-among-requires-2 c κs = step-room (c .before .before .before .before .before .before .before .args .w) (c .before .before .before .before .before .before .before .args .h) (c .before .before .before .less .result) (c .before .before .before .before .before .before .before .args .c) (c .before .before .before .before .before .smaller .result) (c .before .before .before .before .smaller2 .result) _ (omega (arith, c .before .before .before .less .ensures)) (c .before .before .before .before .before .before .before .pre .1 .1) (c .before .before .before .before .before .smaller .ensures) (c .before .before .before .before .smaller2 .ensures) (c .before .before .before .before .before .before .before .pre .0 .1)
+loop-again : tie.Need-loop-again Inv-loop μ-loop Inv-rows μ-rows
+loop-again c = (c .before .before .before .before .loop .inv .0, omega arith)
 
-returns-2 : tie.Need-returns-2
-returns-2 c = λ e. step-in (c .before .before .before .before .before .before .before .before .before .args .w) (c .before .before .before .before .before .before .before .before .before .args .h) (c .before .before .before .before .before .before .before .before .before .args .rings .now) (c .before .before .before .before .before .before .before .before .before .args .r) (c .before .before .before .before .before .before .before .before .before .args .c) (c .before .before .before .before .before .before .before .before .before .args .v) (c .before .before .before .before .before .less .result) (c .before .before .before .before .before .before .before .smaller .result) (c .before .before .before .before .before .before .smaller2 .result) (omega (arith, c .before .before .before .before .before .less .ensures)) (c .before .before .before .before .before .before .before .before .before .pre .1 .1) (omega (arith, c .before .before .before .before .before .less .ensures)) (omega (arith, c .before .before .before .before .before .less .ensures)) (c .before .before .before .before .before .before .before .smaller .ensures) (c .before .before .before .before .before .before .smaller2 .ensures) (c .before .among2 .ensures (c .if2 .taken))
+add-i : tie.Need-add-i Inv-loop μ-loop Inv-rows μ-rows
+add-i c = search needs
 
-mul-among-3 : tie.Need-mul-among-3
-mul-among-3 c = omega (arith, step-fits (c .before .before .before .before .before .before .before .before .before .args .w) (c .before .before .before .before .before .before .before .before .before .args .h) (c .before .before .before .before .smaller3 .result) (c .before .before .before .before .before .before .before .before .before .args .c) (c .before .before .before .before .before .before .before .before .before .pre .0 .0) (omega (arith, c .before .before .before .before .smaller3 .ensures)) (c .before .before .before .before .before .before .before .before .before .pre .1 .1))
+rows-less : tie.Need-rows-less Inv-loop μ-loop Inv-rows μ-rows
+rows-less c = search needs
 
-add-among-3 : tie.Need-add-among-3
-add-among-3 c = omega (arith, step-fits (c .before .before .before .before .before .before .before .before .before .args .w) (c .before .before .before .before .before .before .before .before .before .args .h) (c .before .before .before .before .smaller3 .result) (c .before .before .before .before .before .before .before .before .before .args .c) (c .before .before .before .before .before .before .before .before .before .pre .0 .0) (omega (arith, c .before .before .before .before .smaller3 .ensures)) (c .before .before .before .before .before .before .before .before .before .pre .1 .1))
+rows-again : tie.Need-rows-again Inv-loop μ-loop Inv-rows μ-rows
+rows-again c = (c .before .loop .inv .0, omega arith)
 
-among-requires-3 : tie.Need-among-requires-3
-among-requires-3 c κs = step-room (c .before .before .before .before .before .before .before .before .before .args .w) (c .before .before .before .before .before .before .before .before .before .args .h) (c .before .before .before .before .smaller3 .result) (c .before .before .before .before .before .before .before .before .before .args .c) (c .before .before .before .before .before .before .before .smaller .result) (c .before .before .before .before .before .before .smaller2 .result) _ (omega (arith, c .before .before .before .before .smaller3 .ensures)) (c .before .before .before .before .before .before .before .before .before .pre .1 .1) (c .before .before .before .before .before .before .before .smaller .ensures) (c .before .before .before .before .before .before .smaller2 .ensures) (c .before .before .before .before .before .before .before .before .before .pre .0 .1)
+returns : tie.Need-returns Inv-loop μ-loop Inv-rows μ-rows
+returns c = λ e. clash e (c .before .rows .inv .0)
 
-returns-3 : tie.Need-returns-3
-returns-3 c = λ e. step-in (c .before .before .before .before .before .before .before .before .before .before .args .w) (c .before .before .before .before .before .before .before .before .before .before .args .h) (c .before .before .before .before .before .before .before .before .before .before .args .rings .now) (c .before .before .before .before .before .before .before .before .before .before .args .r) (c .before .before .before .before .before .before .before .before .before .before .args .c) (c .before .before .before .before .before .before .before .before .before .before .args .v) (c .before .before .before .before .before .smaller3 .result) (c .before .before .before .before .before .before .before .before .smaller .result) (c .before .before .before .before .before .before .before .smaller2 .result) (omega (arith, c .before .before .before .before .before .smaller3 .ensures)) (c .before .before .before .before .before .before .before .before .before .before .pre .1 .1) (omega (arith, c .before .before .before .before .before .smaller3 .ensures)) (omega (arith, c .before .before .before .before .before .smaller3 .ensures)) (c .before .before .before .before .before .before .before .before .smaller .ensures) (c .before .before .before .before .before .before .before .smaller2 .ensures) (c .among3 .ensures e)
+returns-2 : tie.Need-returns-2 Inv-loop μ-loop Inv-rows μ-rows
+returns-2 c = λ e. step-at (c .before .before .before .before .before .before .before .before .before .args .w) (c .before .before .before .before .before .before .before .before .before .args .h) _ (c .before .before .before .before .before .before .before .before .before .args .r) (c .before .before .before .before .before .before .before .before .before .args .c) _ (c .before .before .before .before .before .beside .result) (c .before .before .beside2 .result) (c .before .before .before .before .before .beside .ensures) (c .before .before .beside2 .ensures) (c .if1 .taken)
 
 pub steps-spec : {M : Type 1} → statement M
 steps-spec =
     tie.close
     (tie.spec
-    smaller-requires
-    sub-smaller
-    sub-smaller-2
-    smaller-requires-2
-    less-requires
-    add-smaller
-    sub-smaller-3
-    smaller-requires-3
-    mul-among
-    add-among
-    among-requires
+    Inv-loop
+    μ-loop
+    Inv-rows
+    μ-rows
+    rows-holds
+    beside-requires
+    mul-start
+    loop-holds
+    beside-requires-2
+    add-if1
+    mul-if1
+    shared-slice-read-if1
+    add-j
+    loop-less
+    loop-again
+    add-i
+    rows-less
+    rows-again
     returns
-    mul-among-2
-    add-among-2
-    among-requires-2
-    returns-2
-    mul-among-3
-    add-among-3
-    among-requires-3
-    returns-3)
+    returns-2)

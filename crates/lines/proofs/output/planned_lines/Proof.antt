@@ -12,7 +12,7 @@ plan-requires : tie.Need-plan-requires
 plan-requires c κs = search needs
 
 job-lines-requires : tie.Need-job-lines-requires
-job-lines-requires c κs = (planned-whole (c .before .before .before .before .before .before .before .before .before .before .before .before .before .before .args .s) (c .before .before .before .before .before .before .before .before .before .before .before .before .before .before .args .part .now) (c .before .before .before .before .before .before .before .before .before .before .before .before .before .before .args .support .now) (c .before .before .before .before .before .before .before .before .before .before .before .before .before .before .args .rings .now) (c .before .before .before .before .before .before .before .before .before .before .before .before .before .before .pre .0) (c .before .before .before .before .before .before .before .plan .last .1 .1 .0) (c .before .before .before .before .before .before .before .plan .last .1 .1 .1 .0) (c .before .before .before .before .before .before .before .plan .ensures .1 .0) (c .before .before .before .before .before .before .before .plan .ensures .1 .1) (c .before .before .before .before .before .before .before .before .before .before .before .before .before .before .pre .1 .0 .settings) (c .before .before .before .before .before .before .before .before .before .before .before .before .before .before .pre .1 .0 .long), c .before .before .before .before .before .before .before .before .before .before .before .before .before .before .pre .1 .1)
+job-lines-requires c κs = (planned-whole _ _ _ _ (c .before .before .before .before .before .before .before .before .before .before .before .before .before .before .pre .0) _ _ _ (c .before .before .before .before .before .before .before .plan .ensures) (c .before .before .before .before .before .before .before .before .before .before .before .before .before .before .pre .1 .0 .settings) (c .before .before .before .before .before .before .before .before .before .before .before .before .before .before .pre .1 .0 .long), c .before .before .before .before .before .before .before .before .before .before .before .before .before .before .pre .1 .1)
 
 same-length : tie.Need-same-length
 same-length c = search needs
@@ -24,7 +24,7 @@ same-length-3 : tie.Need-same-length-3
 same-length-3 c = search needs
 
 returns : tie.Need-returns
-returns c = planned-printed (c .before .before .before .before .before .before .before .before .before .before .before .before .before .before .before .before .before .args .s) (c .before .before .before .before .before .before .before .before .before .before .before .before .before .before .before .before .before .args .part .now) (c .before .before .before .before .before .before .before .before .before .before .before .before .before .before .before .before .before .args .support .now) (c .before .before .before .before .before .before .before .before .before .before .before .before .before .before .before .before .before .args .rings .now) (c .before .before .before .before .before .before .before .before .before .before .before .before .before .before .before .before .before .pre .0) (c .before .before .before .before .before .before .before .before .before .before .plan .last .1 .1 .0) (c .before .before .before .before .before .before .before .before .before .before .plan .last .1 .1 .1 .0) (c .before .before .job-lines .result) (c .before .before .job-lines .last .0) (c .before .before .before .before .before .before .before .before .before .before .before .before .before .before .before .before .before .args .out .now) (c .before .before .before .before .before .before .before .before .before .before .plan .ensures .1 .0) (c .before .before .before .before .before .before .before .before .before .before .plan .ensures .1 .1) (c .before .before .before .before .before .before .before .before .before .before .before .before .before .before .before .before .before .pre .1 .1) (c .before .before .job-lines .ensures)
+returns c = planned-printed _ _ _ _ (c .before .before .before .before .before .before .before .before .before .before .before .before .before .before .before .before .before .pre .0) _ _ _ _ _ _ (c .before .before .before .before .before .before .before .before .before .before .plan .ensures) (c .before .before .before .before .before .before .before .before .before .before .before .before .before .before .before .before .before .pre .1 .1) (c .before .before .job-lines .ensures)
 
 pub planned-lines-spec : {M : Type 1} → statement M
 planned-lines-spec =
