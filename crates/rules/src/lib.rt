@@ -6,6 +6,9 @@ pub struct Micrometres(pub u32);
 // A length in pixels: a reach, or how far a disc runs to each side.
 pub struct Pixels(pub usize);
 
+// A bound on squared distances between pixels.
+pub struct Bound(pub usize);
+
 // What all layers of a job share: width, height, number of layers, pixel width and overhang.
 pub struct Settings {
     pub w: usize,
