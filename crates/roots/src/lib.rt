@@ -1,6 +1,8 @@
 // Roots from a table, and how far a disc runs to each side in a row.
 mod table;
 
+use rules::Bound;
+use rules::Pixels;
 ghost use mathlib.Core.Path.{_≡_};
 ghost use Prim.Native.Nat.{_+_, _-_, _*_, _<_, _≤_};
 ghost use lib.ListN.{length};
@@ -22,11 +24,12 @@ pub fn root(m: usize) -> usize
 }
 
 // How far the disc with squared radius q runs to each side in a row d away from its middle.
-pub fn half_width(q: usize, d: usize) -> usize
-    requires { ⌜ (d < 33) × ((d * d ≤ q) × (q ≤ 1024)) ⌝ }
-    ensures { λ r. ⌜ r ≡ rule.halfWidth q d ⌝ }
+pub fn half_width(q: Bound, d: Pixels) -> Pixels
+    requires { ⌜ (d .0 < 33) × ((d .0 * d .0 ≤ q .0) × (q .0 ≤ 1024)) ⌝ }
+    ensures { λ r. ⌜ r .0 ≡ rule.halfWidth (q .0) (d .0) ⌝ }
 {
-    root(q - d * d)
+    let k = d.0;
+    Pixels(root(q.0 - k * k))
 }
 
 // The half-widths of the disc with squared radius q, from its middle row on.
@@ -36,7 +39,8 @@ pub fn halves(q: usize, out: &mut [usize])
 {
     let mut d: usize = 0;
     while d * d <= q {
-        out[d] = half_width(q, d);
+        let half = half_width(Bound(q), Pixels(d));
+        out[d] = half.0;
         d += 1;
     }
 }

@@ -7,9 +7,6 @@ use native.Mathlib.Omega.{arith}
 use borrow.Author.Needs.{needs}
 use Rattle.roots.proofs.halves.Statement.{statement}
 use Rattle.roots.proofs.halves.Tie as tie
-use Rattle.roots.proofs.halves.Reads as reads
-use Rattle.roots.proofs.halves.Lts as lts
-use Rattle.roots.proofs.half_width.Reads as half-width-reads
 
 abbrev Inv-loop : tie.InvT-loop
 Inv-loop q out₀ d₀ out d = HalvesTo q d out × (d ≤ 33)
@@ -39,7 +36,7 @@ loop-less : tie.Need-loop-less Inv-loop μ-loop
 loop-less c = omega (arith, square-small (c .before .before .before .before .args .q) (c .before .before .loop .d) (c .before .before .before .before .pre .0) (c .before .loop-test .taken))
 
 loop-again : tie.Need-loop-again Inv-loop μ-loop
-loop-again c = (halves-more (c .before .before .before .before .args .q) (c .before .before .loop .d) (c .half-width .result) (c .before .before .loop .out) (square-small (c .before .before .before .before .args .q) (c .before .before .loop .d) (c .before .before .before .before .pre .0) (c .before .loop-test .taken)) (c .half-width .ensures) (c .before .before .loop .inv .0), omega (arith, square-small (c .before .before .before .before .args .q) (c .before .before .loop .d) (c .before .before .before .before .pre .0) (c .before .loop-test .taken)))
+loop-again c = (halves-more (c .before .before .before .before .args .q) (c .before .before .loop .d) (c .half-width .result .0) (c .before .before .loop .out) (square-small (c .before .before .before .before .args .q) (c .before .before .loop .d) (c .before .before .before .before .pre .0) (c .before .loop-test .taken)) (c .half-width .ensures) (c .before .before .loop .inv .0), omega (arith, square-small (c .before .before .before .before .args .q) (c .before .before .loop .d) (c .before .before .before .before .pre .0) (c .before .loop-test .taken)))
 
 same-length : tie.Need-same-length Inv-loop μ-loop
 same-length c = c .before .loop .inv .0 .long ∙ sym (c .before .before .before .pre .1)
@@ -50,16 +47,5 @@ returns c = halves-all (c .before .before .before .args .q) (c .before .loop .d)
 pub halves-spec : {M : Type 1} → statement M
 halves-spec =
     tie.close
-    (tie.spec
-    Inv-loop
-    μ-loop
-    loop-holds
-    mul-loop
-    half-width-requires
-    mul-out
-    slice-write-out
-    add-d
-    loop-less
-    loop-again
-    same-length
+    (tie.spec Inv-loop μ-loop loop-holds mul-loop half-width-requires mul-out slice-write-out add-d loop-less loop-again same-length
     returns)

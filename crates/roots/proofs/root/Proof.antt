@@ -6,19 +6,10 @@ use native.Mathlib.Omega.{arith}
 use borrow.Author.Needs.{needs}
 use Rattle.roots.proofs.root.Statement.{statement}
 use Rattle.roots.proofs.root.Tie as tie
-use Rattle.roots.proofs.root.Reads as reads
-use Rattle.roots.proofs.root.Lts as lts
-use Rattle.roots.proofs.wide.Reads as wide-reads
-
-array-read-wide : tie.Need-array-read-wide
-array-read-wide c = search needs
-
-wide-requires : tie.Need-wide-requires
-wide-requires c κs = search needs
 
 returns : tie.Need-returns
 unfolding joinedUp
 returns c = c .wide .ensures ∙ table-rule (c .before .args .m) (c .before .pre)
 
 pub root-spec : {M : Type 1} → statement M
-root-spec = tie.close (tie.spec array-read-wide wide-requires returns)
+root-spec = tie.close (tie.spec (λ c. search needs) (λ c κs. search needs) returns)

@@ -1,0 +1,55 @@
+use mathlib.Core.Path.{subst}
+use native.Mathlib.Nat.{mul-le-mul}
+use Rattle.rules.specs.Reach.{square}
+use Rattle.laws.specs.Discs.{root-low, root-small}
+use Rattle.planes.specs.NearLaws.{reach-in}
+use Prim.Native.Nat.{_-_, _+_, _≤_}
+use mathlib.Core.Path.{_≡_}
+use Rattle.rules.specs.Reach.{halfWidth, root}
+use Rattle.words.specs.Words.{column}
+use Rattle.planes.specs.Nearness.{NearTo}
+use Rattle.planes.specs.NearLaws.{near-own, near-all, half-max}
+use native.Mathlib.Omega.{arith}
+use borrow.Author.Needs.{needs}
+use Rattle.planes.proofs.nearness.near_row.Statement.{statement}
+use Rattle.planes.proofs.nearness.near_row.Tie as tie
+
+abbrev Inv-loop : tie.InvT-loop
+Inv-loop low y q k reach x₀ d₀ x d = (d ≤ reach) × (reach ≡ root (q .0)) × NearTo (q .0) (y + 33) d (halfWidth (q .0) d) low (column x)
+
+abbrev μ-loop : tie.MeasureT-loop
+μ-loop low y q k reach x₀ d₀ x d = reach - d
+
+-- src/nearness.rt:39:5
+loop-holds : tie.Need-loop-holds Inv-loop μ-loop
+loop-holds c = (omega arith, c .before .root .ensures, near-own _ _ _ _ (c .row .ensures))
+
+-- src/nearness.rt:41:9
+further-requires : tie.Need-further-requires Inv-loop μ-loop
+further-requires c κs = (omega arith, omega arith, omega arith, omega arith, omega (arith, root-small (c .before .before .before .before .before .args .q .0) (c .before .before .before .before .before .pre .2)), reach-in (c .before .before .before .before .before .args .q .0) _ (omega arith), omega arith)
+
+-- src/nearness.rt:39:5
+loop-again : tie.Need-loop-again Inv-loop μ-loop
+loop-again c =
+    let e : c .before .before .loop .d + 1 - 1 ≡ c .before .before .loop .d = omega arith in
+    (omega arith, c .before .before .loop .inv .1, c .further .ensures (rw e (c .before .before .loop .inv .2)))
+
+-- src/nearness.rt:43:27
+half-width-requires : tie.Need-half-width-requires Inv-loop μ-loop
+half-width-requires c κs = (omega (arith, root-small (c .before .before .before .before .before .args .q .0) (c .before .before .before .before .before .pre .2)), (reach-in (c .before .before .before .before .before .args .q .0) _ (omega arith), omega arith))
+
+-- src/nearness.rt:43:5
+widen-requires : tie.Need-widen-requires Inv-loop μ-loop
+widen-requires c κs = omega (arith, half-max (c .before .before .before .before .before .before .args .q .0) (c .before .before .loop .d) (c .before .before .before .before .before .before .pre .2))
+
+-- src/nearness.rt:31:1
+returns : tie.Need-returns Inv-loop μ-loop
+returns c =
+    let e : c .before .before .before .loop .d ≡ root (c .before .before .before .before .before .before .before .args .q .0) = omega arith in
+    λ w h z fr ly. near-all w h (c .before .before .before .before .before .before .before .args .q .0) (c .before .before .before .before .before .before .before .args .y) (c .before .before .before .before .before .before .before .args .low .now) (column (c .before .before .before .loop .x)) (column (c .widen .result)) z fr ly (rw e at (c .before .before .before .loop .inv .2)) (rw (← e) (rw (c .before .half-width .ensures) at (c .widen .ensures)))
+
+pub near-row-spec : {M : Type 1} → statement M
+near-row-spec =
+    tie.close
+    (tie.spec Inv-loop μ-loop (λ c. search needs) (λ c κs. search needs) (λ c κs. search needs) loop-holds (λ c. search needs)
+    further-requires (λ c. search needs) loop-again half-width-requires widen-requires returns)

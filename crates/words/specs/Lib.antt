@@ -1,0 +1,7 @@
+-- What the contracts cite: words, rows of them, and what stores leave.
+pub mod Words
+-- Laws about them.
+pub mod Digits
+pub mod WordLaws
+pub mod RowLaws
+pub mod SingleLaws

@@ -1,0 +1,186 @@
+// Rows: reading and writing them, and operations on all their columns at once.
+use crate::Row;
+use rules::Pixels;
+ghost use mathlib.Core.Path.{_≡_};
+ghost use mathlib.Core.List.{[], _∷_};
+ghost use mathlib.Core.Bool.{Bool, false, not, _&&_, _||_};
+ghost use Prim.Native.Nat.{ℕ, min, _+_, _-_, _*_, _<_, _≤_};
+ghost use lib.ListN.{length};
+ghost use Rattle.words.specs.Words.{Digits, wordBit, column, rowPart, rowAt, beside, Widened, Within};
+
+// The row without a pixel.
+pub fn none() -> Row
+    ensures { λ r. ⌜ ((c : ℕ) → column r c ≡ false) ⌝ }
+{
+    Row {
+        a: 0,
+        b: 0,
+        c: 0,
+        d: 0,
+    }
+}
+
+// Word q of the row of n bytes from `at` on.
+fn word_of(s: &[u8], at: usize, n: usize, q: usize) -> u64
+    requires { ⌜ (at + n ≤ length (now s)) × (q < 4) ⌝ }
+    ensures { λ r. ⌜ Digits 64 r (q * 64) (rowPart (now (s .entry)) at n) ⌝ }
+{
+    let b = q * 8;
+    if b + 8 <= n {
+        return crate::bytes::word(s, at + b);
+    }
+    if n <= b {
+        return 0;
+    }
+    crate::bytes::part(s, at + b, n - b)
+}
+
+// A row of n bytes from `at` on, where it is short of 32 bytes.
+fn read_short(s: &[u8], at: usize, n: usize) -> Row
+    requires { ⌜ (at + n ≤ length (now s)) × (n ≤ 32) ⌝ }
+    ensures { λ r. ⌜ ((c : ℕ) → column r c ≡ rowPart (now (s .entry)) at n c) ⌝ }
+{
+    let a = word_of(s, at, n, 0);
+    let b = word_of(s, at, n, 1);
+    let c = word_of(s, at, n, 2);
+    let d = word_of(s, at, n, 3);
+    Row { a, b, c, d }
+}
+
+// A row of n bytes from `at` on.
+pub fn read(s: &[u8], at: usize, n: usize) -> Row
+    requires { ⌜ (at + n ≤ length (now s)) × (n ≤ 32) ⌝ }
+    ensures { λ r. ⌜ ((c : ℕ) → column r c ≡ rowPart (now (s .entry)) at n c) ⌝ }
+{
+    if n == 32 {
+        let a = crate::bytes::word(s, at);
+        let b = crate::bytes::word(s, at + 8);
+        let c = crate::bytes::word(s, at + 16);
+        let d = crate::bytes::word(s, at + 24);
+        return Row { a, b, c, d };
+    }
+    read_short(s, at, n)
+}
+
+// The row that stands at word i.
+pub fn get(l: &[u64], i: usize) -> Row
+    requires { ⌜ i + 4 ≤ length (now l) ⌝ }
+    ensures { λ r. ⌜ ((c : ℕ) → column r c ≡ rowAt (now (l .entry)) i c) ⌝ }
+{
+    Row {
+        a: l[i],
+        b: l[i + 1],
+        c: l[i + 2],
+        d: l[i + 3],
+    }
+}
+
+fn put_words(l: &mut [u64], i: usize, a: u64, b: u64, c: u64, d: u64)
+    requires { ⌜ i + 4 ≤ length (now l) ⌝ }
+    ensures { λ _. ⌜ Within (i * 64) ((i + 4) * 64) (λ j. wordBit (a ∷ b ∷ c ∷ d ∷ []) (j - i * 64)) (wordBit (now (l .entry))) (wordBit (now (l .exit))) ⌝ }
+{
+    l[i] = a;
+    l[i + 1] = b;
+    l[i + 2] = c;
+    l[i + 3] = d;
+}
+
+// Puts a row at word i.
+pub fn put(l: &mut [u64], i: usize, x: Row)
+    requires { ⌜ i + 4 ≤ length (now l) ⌝ }
+    ensures { λ _. ⌜ Within (i * 64) ((i + 4) * 64) (λ j. column x (j - i * 64)) (wordBit (now (l .entry))) (wordBit (now (l .exit))) ⌝ }
+{
+    put_words(l, i, x.a, x.b, x.c, x.d);
+}
+
+pub fn either(x: Row, y: Row) -> Row
+    ensures { λ r. ⌜ ((c : ℕ) → column r c ≡ (column x c || column y c)) ⌝ }
+{
+    Row {
+        a: x.a | y.a,
+        b: x.b | y.b,
+        c: x.c | y.c,
+        d: x.d | y.d,
+    }
+}
+
+pub fn both(x: Row, y: Row) -> Row
+    ensures { λ r. ⌜ ((c : ℕ) → column r c ≡ (column x c && column y c)) ⌝ }
+{
+    Row {
+        a: x.a & y.a,
+        b: x.b & y.b,
+        c: x.c & y.c,
+        d: x.d & y.d,
+    }
+}
+
+// In x and not in y.
+pub fn but_not(x: Row, y: Row) -> Row
+    ensures { λ r. ⌜ ((c : ℕ) → column r c ≡ (column x c && not (column y c))) ⌝ }
+{
+    Row {
+        a: x.a & !y.a,
+        b: x.b & !y.b,
+        c: x.c & !y.c,
+        d: x.d & !y.d,
+    }
+}
+
+// Whether there is a pixel.
+pub fn any(x: Row) -> bool
+    ensures { λ d. ⌜ (d ≡ false → (c : ℕ) → column x c ≡ false) ⌝ }
+{
+    x.a | x.b | x.c | x.d != 0
+}
+
+// The word m between l and n: each bit, and those s columns beside it.
+fn spread(l: u64, m: u64, n: u64, s: usize) -> u64
+    requires { ⌜ (0 < s) × (s < 64) ⌝ }
+    ensures { λ r. ⌜ ((a : ℕ) → (f : ℕ → Bool) → Digits 64 l a f → Digits 64 m (a + 64) f → Digits 64 n (a + 128) f → Digits 64 r (a + 64) (beside s f)) ⌝ }
+{
+    m | ((m << s) | (n >> (64 - s))) | ((l << (64 - s)) | (m >> s))
+}
+
+fn wide_words(a: u64, b: u64, c: u64, d: u64, s: usize) -> Row
+    requires { ⌜ (0 < s) × (s < 64) ⌝ }
+    ensures { λ r. ⌜ ((k : ℕ) → k < 256 → column r k ≡ beside s (wordBit (a ∷ b ∷ c ∷ d ∷ [])) k) ⌝ }
+{
+    Row {
+        a: spread(0, a, b, s),
+        b: spread(a, b, c, s),
+        c: spread(b, c, d, s),
+        d: spread(c, d, 0, s),
+    }
+}
+
+// Each pixel, and those s columns beside it.
+pub fn wide(x: Row, s: Pixels) -> Row
+    requires { ⌜ (0 < s .0) × (s .0 < 64) ⌝ }
+    ensures { λ r. ⌜ ((c : ℕ) → c < 256 → column r c ≡ beside (s .0) (column x) c) ⌝ }
+{
+    wide_words(x.a, x.b, x.c, x.d, s.0)
+}
+
+fn lesser(a: usize, b: usize) -> usize
+    ensures { λ r. ⌜ r ≡ min a b ⌝ }
+{
+    if a < b { a } else { b }
+}
+
+// The row `by` columns wider to each side. A step is at most what was widened before and one more: a pixel at the edge of the image has
+// no more columns beside it, and a longer step leaves a gap there.
+pub fn widen(x: Row, by: Pixels) -> Row
+    requires { ⌜ by .0 ≤ 32 ⌝ }
+    ensures { λ r. ⌜ Widened (by .0) (column x) (column r) ⌝ }
+{
+    let n = by.0;
+    let mut r = x;
+    let mut done: usize = 0;
+    while done < n {
+        let s = lesser(done + 1, n - done);
+        r = wide(r, Pixels(s));
+        done += s;
+    }
+    r
+}

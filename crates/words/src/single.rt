@@ -1,0 +1,35 @@
+// The bits of a word, one by one.
+ghost use mathlib.Core.Path.{_≡_};
+ghost use mathlib.Core.Bool.{true, false, not, _&&_};
+ghost use Prim.Native.Nat.{ℕ, _+_, _<_};
+ghost use lib.ListN.{length};
+ghost use lib.Dec.{eqb};
+ghost use Rattle.words.specs.Words.{bitOfWord, lastBit, Numbered};
+
+// The last bit that is set, and the word without it: the cheapest way through all bits of a word.
+fn last(x: u64) -> usize
+    requires { ⌜ 0 < x ⌝ }
+    ensures { λ r. ⌜ (r ≡ lastBit x) × (r < 64) × (bitOfWord x r ≡ true) ⌝ }
+{
+    63 - u64::trailing_zeros(x) as usize
+}
+
+fn without_last(x: u64) -> u64
+    requires { ⌜ 0 < x ⌝ }
+    ensures { λ r. ⌜ ((i : ℕ) → i < 64 → bitOfWord r i ≡ bitOfWord x i && not (eqb i (lastBit x))) × (r < x) ⌝ }
+{
+    x & (x - 1)
+}
+
+// The number v at the places of the set bits of m; bit 0 is place x.
+pub fn number(l: &mut [u16], x: usize, m: u64, v: u16)
+    requires { ⌜ ((k : ℕ) → k < 64 → bitOfWord m k ≡ true → x + k < length (now l)) ⌝ }
+    ensures { λ _. ⌜ Numbered x m v (now (l .entry)) (now (l .exit)) ⌝ }
+{
+    let mut left = m;
+    while left != 0 {
+        let k = last(left);
+        l[x + k] = v;
+        left = without_last(left);
+    }
+}
