@@ -29,6 +29,7 @@ use Rattle.laws.specs.Demand2.{plan-fills}
 use Rattle.laws.specs.Demand3.{plannedBytes-length, plannedRings-length}
 use Rattle.laws.specs.JobFiles.{Accepted, accepted-exactly}
 use Rattle.laws.specs.RoundTrips.{part-length}
+use Rattle.laws.specs.Runs.{length-over}
 use Rattle.laws.specs.ReportLaws.{decimal-length, report-reads, report-too-long, report-no-room, report-prints, report-refused}
 use Rattle.lines.specs.Lines.{Wrote, spaced-length, line-length}
 use Rattle.lines.specs.Whole.{Whole, linesTo, planned-lines, layer-is, job-short}
@@ -164,6 +165,12 @@ text-short f false = go (refusal (reportCases f)) refl (at-most 17 (reportCases 
     go : (x : ℕ) → refusal (reportCases f) ≡ x → x ≤ 17 → length (answer x (planLines (settingsIn f) (partIn f)) refusedLine) ≤ 16384
     go zero e l = plan-short (settingsIn f) (partIn f) (ranged (settingsIn f) (accepted-exactly f .0 (report-reads f e) .settings))
     go (suc x) e l = refused-short (suc x) (omega arith)
+
+-- so the text that a buffer holds ends within it
+pub report-fits : (f : List ℕ) (more : Bool) (out : List ℕ) (r : ℕ) (out′ : List ℕ) → Reports f more out r out′ → length out ≡ 16384 → r ≤ length out′
+report-fits f more out r out′ x e =
+    let t = text-short f more in
+    omega (arith, x .answer, ap length (x .destination), length-over out 0 (textOf f more) (omega arith))
 
 pub longer-report : (f : List ℕ) (r : ℕ) (now was : List ℕ) → 65536 < length f → Printed (refusedLine 17) r now was → Printed (reportOf f) r now was
 longer-report f r now was h t = rw (report-too-long f h) t

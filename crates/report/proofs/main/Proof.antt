@@ -1,6 +1,8 @@
 use mathlib.Core.Path.{sym}
 use lib.Seq.{length-take-le}
-use Rattle.lines.specs.Printed.{text-short}
+use Prim.Native.Nat.{ℕ}
+use lib.ListN.{length-replicate}
+use Rattle.lines.specs.Printed.{report-fits}
 use native.Mathlib.Omega.{arith}
 use borrow.Author.Needs.{needs}
 use Rattle.report.proofs.main.Statement.{statement}
@@ -28,10 +30,10 @@ report-requires : tie.Need-report-requires
 report-requires c κs = search needs
 
 array-share-prefix-out : tie.Need-array-share-prefix-out
-array-share-prefix-out c = ?
+array-share-prefix-out c = report-fits _ _ _ _ _ (c .report .ensures) (length-replicate {A = ℕ} 16384 0)
 
 slice-aggregate-write-all : tie.Need-slice-aggregate-write-all
-slice-aggregate-write-all c = ?
+slice-aggregate-write-all c = sym (length-take-le _ _ (report-fits _ _ _ _ _ (c .before .report .ensures) (length-replicate {A = ℕ} 16384 0)))
 
 write-all-requires : tie.Need-write-all-requires
 write-all-requires c κs = search needs
