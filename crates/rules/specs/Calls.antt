@@ -1,4 +1,4 @@
--- 'Refusal numbers' of 01: for each call its refusals in their order, its answer, and what the lent memory holds afterwards.
+-- Rules 6: for each call its refusals in their order, its answer, and what the lent memory holds afterwards.
 use mathlib.Core.Bool.{Bool, true, false, not, _&&_, _||_, cond}
 use mathlib.Core.List.{List, [], _∷_, _++_}
 use Prim.Native.Nat.{ℕ, _+_, _*_}
@@ -27,8 +27,7 @@ use Rattle.rules.specs.declared.CopiedRings.the-variants.{Copied, Refuse
 use Rattle.rules.specs.declared.WrittenJob.{WrittenJob}
 use Rattle.rules.specs.declared.WrittenJob.the-variants.{Length, Refused as NotWritten}
 
--- "A refusal carries its number, its place where the table says so, and nothing else." Each answer as 01's number, 0 for none,
--- and then its values -------------------------------------------------------------------------------------------------------
+-- Rule 6.8: each answer as its number, 0 for none, and then its values; a refusal has a place where it is 9, 10 or 11, and nothing else -----
 
 abbrev pub saysReached : Reached → List ℕ
 saysReached (By r) = 0 ∷ r .0 ∷ []
@@ -59,7 +58,7 @@ abbrev pub saysWritten : WrittenJob → List ℕ
 saysWritten (Length k) = 0 ∷ k ∷ []
 saysWritten (NotWritten k) = k ∷ []
 
--- The reach call: "is given p and t only and answers 2 or 3 or R; for it 1 doesn't apply" -----------------------------------
+-- Rule 6.1, reach: it is given pitch and overhang alone, so 1 does not apply -------------------------------------------------------
 
 unfoldable pub reachCases : Micrometres → Micrometres → List Case
 reachCases p t =
@@ -70,11 +69,11 @@ reachCases p t =
 unfoldable pub reachAnswer : Micrometres → Micrometres → Reached
 reachAnswer p t = answer (refusal (reachCases p t)) (By (reachOf p t)) NotReached
 
--- 1, 2, 3: of all calls but reach
+-- Rules 1.1, 2.1 and 2.2 as numbers 1, 2 and 3: of all calls but reach
 unfoldable pub settingCases : Settings → List Case
 settingCases s = (1 when not (sized s)) ∷ reachCases (s .pitch) (s .overhang)
 
--- Planning: part is read, support and rings are lent ---------------------------------------------------------------------------
+-- Rule 6.2, planning: part is read, support and rings are lent ---------------------------------------------------------------------
 
 unfoldable pub lengthCases : Settings → ℕ → ℕ → ℕ → List Case
 lengthCases s part support rings =
@@ -96,7 +95,7 @@ planRefusal s part support rings = refusal (planCases s part support rings)
 unfoldable pub planAnswer : Settings → List ℕ → ℕ → ℕ → Planned
 planAnswer s part support rings = answer (planRefusal s part support rings) Done NotPlanned
 
--- "All lent memory then holds what it held before."
+-- Rule 6.8: a refusal leaves lent memory as it was
 unfoldable pub planSupport : Settings → List ℕ → List ℕ → List ℕ → List ℕ
 planSupport s part support rings =
     answer (planRefusal s part (length support) (length rings)) (plannedBytes (s .w) (s .h) (s .n) (boundOf s) part) (λ k. support)
@@ -105,7 +104,7 @@ unfoldable pub planRings : Settings → List ℕ → List ℕ → List ℕ → L
 planRings s part support rings =
     answer (planRefusal s part (length support) (length rings)) (plannedRings (s .w) (s .h) (s .n) (boundOf s) part) (λ k. rings)
 
--- Judging -----------------------------------------------------------------------------------------------------------------------
+-- Rule 6.3, judging ------------------------------------------------------------------------------------------------------------------
 
 unfoldable pub judgeCases : Settings → List ℕ → List ℕ → ℕ → List Case
 judgeCases s part support rings =
@@ -121,10 +120,9 @@ judgeAnswer s part support rings =
     (verdictOf (s .w) (s .h) (s .n) (boundOf s) part support rings)
     NotJudged
 
--- Reading: "reading goes from the first byte" -------------------------------------------------------------------------------------
+-- Rule 6.4, reading, from the first byte on ------------------------------------------------------------------------------------------
 
--- "a count cut short is 12, a wrong count 13 before its contents, then contents cut short 12": the section whose count stands at
--- `at`, with units of u bytes
+-- a count cut short is 12, then a wrong one 13, then contents cut short 12: the section whose count stands at `at`, with units of u bytes
 unfoldable pub sectionCases : List ℕ → ℕ → (ℕ → Bool) → ℕ → List Case
 sectionCases f at allowed u =
     (12 when ltb (length f) (at + 4))
@@ -132,7 +130,7 @@ sectionCases f at allowed u =
     ∷ (12 when ltb (length f) (at + 4 + be32 f at * u))
     ∷ []
 
--- "Values 1, 2, 3 are tested when section 1 is whole. Padding is tested last, after 14"
+-- settings are tested when section 1 is whole, padding last of all
 unfoldable pub readCases : List ℕ → List Case
 readCases f =
     let s : Settings = settingsIn f in
@@ -153,16 +151,14 @@ readRefusal f = refusal (readCases f)
 unfoldable pub readAnswer : List ℕ → ReadJob
 readAnswer f = answer (readRefusal f) (IsJob (layoutOf f)) NotRead
 
--- "For part and for support a call hands back that stretch of the caller's file, empty where none is stored or the job is
--- refused; these two calls give no number."
+-- Rule 6.5: the stretch of the file, empty where the job is refused; these two calls give no number
 unfoldable pub partAnswer : List ℕ → List ℕ
 partAnswer f = answer (readRefusal f) (partIn f) (λ k. [])
 
 unfoldable pub supportAnswer : List ℕ → List ℕ
 supportAnswer f = answer (readRefusal f) (supportIn f) (λ k. [])
 
--- "Another call copies rings to a lent ring buffer, which must have exactly the stored number of rings (else 6)": "copying rings
--- tests 6 after everything reading tests"
+-- Rule 6.6: rings are copied into exactly their number, which is tested after everything that reading tests
 unfoldable pub copyCases : List ℕ → ℕ → List Case
 copyCases f room = readCases f ++ (6 when not (eqb room (ringCount (settingsIn f) (storedIn f)))) ∷ []
 
@@ -172,9 +168,9 @@ copyAnswer f room = answer (refusal (copyCases f room)) Copied NotCopied
 unfoldable pub copyRings : List ℕ → List ℕ → List ℕ
 copyRings f rings = answer (refusal (copyCases f (length rings))) (ringsStored f) (λ k. rings)
 
--- Writing -------------------------------------------------------------------------------------------------------------------------
+-- Rule 6.7, writing ------------------------------------------------------------------------------------------------------------------
 
--- "support length wrong (writing: neither 0 nor full)", "ring count wrong (writing without support: not 0)"
+-- support may be absent, and then so must rings be
 unfoldable pub writeCases : Job → ℕ → List Case
 writeCases j room =
     let s : Settings = j .settings in
@@ -192,7 +188,7 @@ writeCases j room =
 unfoldable pub writeRefusal : Job → ℕ → ℕ
 writeRefusal j room = refusal (writeCases j room)
 
--- "answers the length; bytes past that length stay"
+-- Rule 5.6: the length is answered, and what is behind it stays
 unfoldable pub writeAnswer : Job → ℕ → WrittenJob
 writeAnswer j room = answer (writeRefusal j room) (Length (fileLength j)) NotWritten
 

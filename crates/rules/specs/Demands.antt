@@ -1,4 +1,4 @@
--- The words of the three demands as statements: given exactly when; joined, excused and sound.
+-- Rules 8, as statements: given exactly when; the first place; joined, excused and sound.
 use mathlib.Core.Path.{_≡_}
 use mathlib.Core.Logic.{_⊎_}
 use mathlib.Core.Bool.{Bool, true, false, _||_}
@@ -10,7 +10,7 @@ use Rattle.rules.specs.Images.{Plane, Stack}
 use Rattle.rules.specs.Planning.{touch, seeds, reached}
 use Rattle.rules.specs.declared.Place.{Place}
 
--- Demand 1 and the head of 01's table, "Given exactly when": the number k is that of a case whose condition holds, and no earlier one of the table does
+-- Rule 8.1: the number k is that of a case whose condition holds, and no earlier one of the table does
 pub data Given (k : ℕ) : List Case → Type 0 where
   here : {b : Bool} {cs : List Case} → b ≡ true → Given k ((k when b) ∷ cs)
   later : {j : ℕ} {b : Bool} {cs : List Case} → b ≡ false → Given k cs → Given k ((j when b) ∷ cs)
@@ -25,7 +25,7 @@ pub data NoneGiven : List Case → Type 0 where
   end : NoneGiven []
   next : {j : ℕ} {b : Bool} {cs : List Case} → b ≡ false → NoneGiven cs → NoneGiven ((j when b) ∷ cs)
 
--- "the first place by layer, then row, then column": the place j, s, d comes before the place i, r, c
+-- Rule 8.2: the place j, s, d comes before the place i, r, c
 pub data Earlier (j s d i r c : ℕ) : Type 0 where
   sooner-layer : j < i → Earlier j s d i r c
   sooner-row : j ≡ i → s < r → Earlier j s d i r c
@@ -41,28 +41,28 @@ pub record FirstAt (w h n up : ℕ) (f : Stack) (at : Place) : Type 0 where
   pub passes : f i (r * w + c) ≡ true
   pub none-earlier : (j s d : ℕ) → j < n → s < h → d < w → Earlier j s d i r c → f j (s * w + d) ≡ false
 
--- Demands 2 and 3: "joined, by pixels touching at a side or corner, itself the first": the pixel p is joined to a seed by k steps over free pixels
+-- Rule 8.3: the pixel p is joined to a seed by k steps over free pixels, itself the first
 pub data Joined (m : ℕ) (touch : ℕ → ℕ → Bool) (free seed : Plane) : ℕ → ℕ → Type 0 where
   start : {p o : ℕ} → free p ≡ true → o < m → touch p o ≡ true → seed o ≡ true → Joined m touch free seed 1 p
   onward : {k p o : ℕ} → free p ≡ true → o < m → touch p o ≡ true → Joined m touch free seed k o → Joined m touch free seed (suc k) p
 
 module _ (w h : ℕ) (q : ℕ → ℕ) (part : Stack) where
-  -- "that are all part above, not part below and within reach of part below"
+  -- free are the near shadow pixels of pair i (rule 3.4)
   abbrev pub freeIn : ℕ → Plane
   freeIn i = reached w h (q i) (part i) (part (suc i))
 
-  -- "to a pixel that is part in both layers"
+  -- and seeds those that are part in both layers (rule 3.3)
   abbrev pub seedIn : ℕ → Plane
   seedIn i = seeds (part i) (part (suc i))
 
   abbrev pub JoinedBy : ℕ → ℕ → ℕ → Type 0
   JoinedBy i k p = Joined (h * w) (touch w) (freeIn i) (seedIn i) k p
 
-  -- the pixel p of layer i + 1 is excused from support in layer i
+  -- Rule 8.4: the pixel p of layer i + 1 is excused from support in layer i
   abbrev pub Excused : ℕ → ℕ → Type 0
   Excused i p = (k : ℕ) × JoinedBy i k p
 
--- "no support pixel is also part, and each part or support pixel above the bottom layer has part or support below it or is excused"
+-- Rule 8.5: no support inside the part, and nothing above layer 0 that hangs and is not excused
 pub record Sound (w h n : ℕ) (q : ℕ → ℕ) (part sup : Stack) : Type 0 where
   pub clear : (i p : ℕ) → i < n → p < h * w → sup i p ≡ true → part i p ≡ false
   pub holds : (i p : ℕ) → suc i < n → p < h * w → (part (suc i) p || sup (suc i) p) ≡ true → ((part i p || sup i p) ≡ true) ⊎ Excused w h q part i p

@@ -1,5 +1,5 @@
--- Sizes, rows, planes and stacks: 'Images and numbers' of 01.
--- A pixel is one number, r * w + c for row r and column c, so a plane is a test on numbers below h * w and a stack one on layers and pixels.
+-- Rules 1: sizes, rows, planes and stacks.
+-- A pixel is one number, r * w + c for row r and column c (rule 1.2), so a plane is a test on numbers below h * w and a stack one on layers and pixels.
 use mathlib.Core.Bool.{Bool, true, false, not, _&&_}
 use mathlib.Core.List.{List}
 use Prim.Native.Nat.{ℕ, zero, suc, _+_, _-_, _*_, _/_, _%_, _^_}
@@ -21,34 +21,34 @@ Rings = ℕ → ℕ → ℕ
 unfoldable pub within : ℕ → ℕ → ℕ → Bool
 within low high x = leb low x && leb x high
 
--- "Width W and height H: 1 to 256. Layers N: 1 to 512."
+-- Rule 1.1: width and height from 1 to 256, layers from 1 to 512
 unfoldable pub sized : Settings → Bool
 sized s = within 1 256 (s .w) && within 1 256 (s .h) && within 1 512 (s .n)
 
--- "A row is ⌈W/8⌉ bytes"
+-- Rule 1.3: how many bytes a row has
 unfoldable pub rowBytes : ℕ → ℕ
 rowBytes w = (w + 7) / 8
 
--- "the highest bit being the leftmost pixel, 1 meaning filled": bit k of a byte, counted from the left
+-- Rule 1.3: bit k of a byte, counted from the highest, which is the leftmost pixel
 unfoldable pub bitAt : ℕ → ℕ → Bool
 bitAt b k = eqb (b / 2 ^ (7 - k) % 2) 1
 
--- "A plane is H rows; a stack is N planes, layer 0 first." "Row 0 comes first, column 0 is leftmost."
+-- Rules 1.3 and 1.5: pixel p of layer i in the bytes of a stack, layer 0 and row 0 first
 unfoldable pub pixel : ℕ → ℕ → List ℕ → Stack
 pixel w h s i p = bitAt (getD s ((i * h + p / w) * rowBytes w + p % w / 8) 0) (p % w % 8)
 
--- how many rows a stack has, and how many bytes
+-- Rule 1.5: how many rows a stack has, and how many bytes
 unfoldable pub rowsOf : Settings → ℕ
 rowsOf s = s .n * s .h
 
 unfoldable pub stackBytes : Settings → ℕ
 stackBytes s = rowsOf s * rowBytes (s .w)
 
--- "Unused low bits are padding and must be 0": some of the first k rows has one set
+-- Rule 1.4: some of the first k rows has a bit set that no pixel uses
 unfoldable pub paddingSet : ℕ → ℕ → List ℕ → Bool
 paddingSet w k s = some k λ row. not (eqb (getD s (row * rowBytes w + (rowBytes w - 1)) 0 % 2 ^ (8 * rowBytes w - w)) 0)
 
--- the bytes of a stack: byte j of a row has the eight pixels from column 8 * j on, and 0 where the row has ended
+-- Rule 1.5: the bytes of a stack: byte j of a row has the eight pixels from column 8 * j on, and 0 where the row has ended
 unfoldable pub byteOf : ℕ → ℕ → Stack → ℕ → ℕ → ℕ → ℕ
 byteOf w h s row j zero = 0
 byteOf w h s row j (suc k) = byteOf w h s row j k * 2 + bit (ltb (8 * j + k) w && s (row / h) (row % h * w + (8 * j + k)))
@@ -56,7 +56,7 @@ byteOf w h s row j (suc k) = byteOf w h s row j k * 2 + bit (ltb (8 * j + k) w &
 unfoldable pub bytesOf : ℕ → ℕ → ℕ → Stack → List ℕ
 bytesOf w h n s = each 0 (n * h * rowBytes w) λ b. byteOf w h s (b / rowBytes w) (b % rowBytes w) 8
 
--- "Ring planes: N−1 planes of W·H unsigned 16-bit numbers, row by row. Plane i belongs to the pair of layers i and i+1."
+-- Rule 1.6: how many rings there are, and the ring of pixel p in plane i
 unfoldable pub ringsIn : Settings → ℕ
 ringsIn s = (s .n - 1) * (s .h * s .w)
 

@@ -1,4 +1,4 @@
--- 'Job file' of 01: where the sections stand, what a file holds, and the file of a job.
+-- Rules 5: where the sections of a job file stand, what a file holds, and the file of a job.
 use mathlib.Core.Bool.{Bool, true, false, not, _||_, cond}
 use mathlib.Core.List.{List, [], _∷_, _++_}
 use Prim.Native.Nat.{ℕ, zero, suc, _+_, _*_, _/_, _%_}
@@ -8,7 +8,7 @@ use Rattle.rules.specs.Images.{rowBytes, rowsOf, stackBytes, ringsIn}
 use Rattle.rules.specs.declared.Settings.{Settings}
 use Rattle.rules.specs.declared.Layout.{Layout}
 
--- "All numbers are big-endian." The numbers of 16 and 32 bits at an offset, and their bytes
+-- Rule 5.1: the numbers of 16 and 32 bits at an offset, the higher byte first, and their bytes
 abbrev pub be16 : List ℕ → ℕ → ℕ
 be16 f i = getD f i 0 * 256 + getD f (i + 1) 0
 
@@ -30,33 +30,33 @@ abbrev pub put16s : List ℕ → List ℕ
 put16s [] = []
 put16s (x ∷ xs) = put16 x ++ put16s xs
 
--- "Four sections in fixed order, each after its 32-bit count." ------------------------------------------------------------
+-- Rule 5.2: four sections, each after its count ------------------------------------------------------------------------------
 -- The count of a section stands where the section before it ends, and its contents 4 bytes further on.
 
--- "1. Settings: count 5, then W, H, N, p, t, 16 bits each."
+-- section 1: count 5, then W, H, N, p and t
 unfoldable pub headEnd : ℕ
 headEnd = 14
 
--- "2. Part: count N·H rows, then the rows."
+-- section 2: a count of all rows, then the part
 unfoldable pub partEnd : Settings → ℕ
 partEnd s = headEnd + 4 + stackBytes s
 
--- "3. Support: count 0 (none stored) or N·H, then the rows."
+-- section 3: a count of all rows or of none, then the support
 unfoldable pub supportCount : Settings → ℕ → Bool
 supportCount s c = eqb c 0 || eqb c (rowsOf s)
 
 unfoldable pub supportEnd : Settings → ℕ → ℕ
 supportEnd s c = partEnd s + 4 + c * rowBytes (s .w)
 
--- "4. Rings: where section 3 has count 0, count 0; otherwise (N−1)·W·H, then 16-bit numbers."
+-- section 4: as many rings as there are, but none without support
 unfoldable pub ringCount : Settings → ℕ → ℕ
 ringCount s c = cond (eqb c 0) 0 (ringsIn s)
 
--- "Nothing follows.": the job's length, where section 3 has count c
+-- nothing follows: the job's length, where section 3 has count c
 unfoldable pub jobEnd : Settings → ℕ → ℕ
 jobEnd s c = supportEnd s c + 4 + ringCount s c * 2
 
--- What a file holds ---------------------------------------------------------------------------------------------------------
+-- Rule 5.3: what a file holds -------------------------------------------------------------------------------------------------
 
 unfoldable pub settingsIn : List ℕ → Settings
 settingsIn f =
@@ -75,7 +75,7 @@ supportIn f = take (storedIn f * rowBytes (settingsIn f .w)) (drop (partEnd (set
 unfoldable pub ringsStored : List ℕ → List ℕ
 ringsStored f = get16s f (supportEnd (settingsIn f) (storedIn f) + 4) (ringCount (settingsIn f) (storedIn f))
 
--- "Reading answers the settings, the presence of support and, for each section, the offset of the first byte after its count."
+-- Rule 5.4: settings, whether support is stored, and for each section the offset of the first byte after its count
 unfoldable pub layoutOf : List ℕ → Layout
 layoutOf f =
     record {
@@ -87,7 +87,7 @@ layoutOf f =
       rings = supportEnd (settingsIn f) (storedIn f) + 4;
     }
 
--- The file of a job -----------------------------------------------------------------------------------------------------------
+-- Rule 5.5: the file of a job ------------------------------------------------------------------------------------------------
 
 -- everything that a job holds; where no support is stored, it and the rings are empty lists
 pub record Job : Type 0 where
@@ -113,10 +113,10 @@ fileOf j =
     ++ (put32 (storedRows (j .settings) (length (j .support))) ++ j .support)
     ++ (put32 (length (j .rings)) ++ put16s (j .rings))
 
--- "The writer .. answers the length": that of the job's file
+-- the length of that file
 unfoldable pub fileLength : Job → ℕ
 fileLength j = jobEnd (j .settings) (storedRows (j .settings) (length (j .support)))
 
--- d with the bytes bs from an offset on, and all else as it was
+-- Rule 5.6: d with the bytes bs from an offset on, and all else as it was
 unfoldable pub over : List ℕ → ℕ → List ℕ → List ℕ
 over d at bs = take at d ++ bs ++ drop (at + length bs) d

@@ -1,4 +1,4 @@
--- 'Judging a stack' of 01.
+-- Rules 4: judging a stack.
 use mathlib.Core.Bool.{Bool, true, false, not, _&&_, _||_}
 use mathlib.Core.List.{List}
 use Prim.Native.Nat.{ℕ, suc, _+_, _-_, _*_, _/_, _%_}
@@ -10,26 +10,25 @@ use Rattle.rules.specs.declared.Place.{Place}
 use Rattle.rules.specs.declared.Judged.{Judged}
 use Rattle.rules.specs.declared.Judged.the-variants.{Accepted, RefusedAt}
 
--- "overlap: a pixel in both T(i) and P(i)"
+-- Rule 4.1: support inside the part
 unfoldable pub overlap : Stack → Stack → Stack
 overlap part sup i p = sup i p && part i p
 
--- "bad ring: a pixel of plane i with ring k > 0 that isn't in the shadow, or isn't near, or has no neighbour of ring k−1; for
--- k = 1 the neighbour must be a seed"
+-- Rule 4.2: a ring on a pixel that may not carry it: no near shadow pixel, or none beside it with the ring before
 unfoldable pub badRing : ℕ → ℕ → (ℕ → ℕ) → Stack → Rings → Stack
 badRing w h q part ring i p =
     ltb 0 (ring i p)
     && not (fits (h * w) (touch w) (reached w h (q i) (part i) (part (suc i))) (seeds (part i) (part (suc i))) (ring i) (ring i p - 1) p)
 
--- "unheld: a pixel of P(i+1) or T(i+1) that is in neither P(i) nor T(i) and has ring 0 in plane i"
+-- Rule 4.3: part or support above neither, without a ring
 unfoldable pub unheld : Stack → Stack → Rings → Stack
 unheld part sup ring i p = (part (suc i) p || sup (suc i) p) && not (part i p || sup i p) && eqb (ring i p) 0
 
--- "the first place by layer, then row, then column": the first pixel of n layers, all counted through
+-- Rule 4.4: the first pixel of n layers by layer, row and column, all counted through
 unfoldable pub firstIn : ℕ → ℕ → ℕ → Stack → Found
 firstIn w h n f = first 0 (n * (h * w)) λ x. f (x / (h * w)) (x % (h * w))
 
--- "all counted from 0. For bad ring and unheld the layer told is i+1": `up` is 1 for these
+-- Rule 4.4: its place; the layer told is `up` layers higher, 1 for a bad ring and an unheld pixel
 unfoldable pub placeOf : ℕ → ℕ → ℕ → ℕ → Place
 placeOf w h up x = record { layer = x / (h * w) + up; row = x / w % h; column = x % w }
 
@@ -38,7 +37,7 @@ unfoldable pub tell : ℕ → ℕ → ℕ → ℕ → Found → Judged → Judge
 tell w h number up nothing after = after
 tell w h number up (found x) after = RefusedAt number (placeOf w h up x)
 
--- "Overlap anywhere comes before any bad ring, and any bad ring before any unheld pixel."
+-- Rule 4.4: an overlap anywhere first, then any bad ring, then any unheld pixel
 unfoldable pub verdict : ℕ → ℕ → ℕ → (ℕ → ℕ) → Stack → Stack → Rings → Judged
 verdict w h n q part sup ring =
     tell w h 9 0 (firstIn w h n (overlap part sup)) (

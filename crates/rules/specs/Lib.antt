@@ -1,4 +1,4 @@
--- The rules of document 01, in reading order.
+-- The rules of docs/RULES.md as definitions, in reading order.
 pub mod Tools
 pub mod Images
 pub mod Reach

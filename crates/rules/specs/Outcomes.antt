@@ -1,4 +1,4 @@
--- 'What the contracts must say' of 01: for each call one record of its outcome, the answer and the later contents of all lent memory. A call's
+-- Rule 6.8: for each call one record of its outcome, the answer and the later contents of all lent memory. A call's
 -- contract is its record, for accepted and refused input alike, and the laws show that no record allows two outcomes (Outcomes of crate laws).
 use mathlib.Core.Path.{_≡_}
 use mathlib.Core.Bool.{Bool}

@@ -1,4 +1,4 @@
--- 'Planning a stack' of 01, and beside it Algorithms 1 and 2 of the chapter.
+-- Rules 3: planning a stack, and beside it Algorithms 1 and 2 of the chapter.
 use mathlib.Core.Bool.{Bool, true, false, not, _&&_, _||_, cond}
 use mathlib.Core.List.{List, [], _∷_, _++_}
 use Prim.Native.Nat.{ℕ, zero, suc, _+_, _-_, _*_, _/_, _%_}
@@ -8,29 +8,29 @@ use Rattle.rules.specs.Tools.{some, each, joinedUp}
 use Rattle.rules.specs.Images.{Plane, Stack, Rings, pixel, bytesOf, ringAt}
 use Rattle.rules.specs.Reach.{apart, distance²}
 
--- "Shadow: pixels in P(i+1) and not in P(i)."
+-- Rule 3.1: part above, and none below
 unfoldable pub shadow : Plane → Plane → Plane
 shadow low up p = up p && not (low p)
 
--- "Near: pixels with some pixel of P(i) at squared distance at most R²." "Pixels outside the image don't exist."
+-- Rule 3.2: some pixel of the lower part is within the bound; only pixels that exist are asked
 unfoldable pub near : ℕ → ℕ → ℕ → Plane → Plane
 near w h q low p = some (h * w) λ o. low o && leb (distance² w p o) q
 
--- "Seeds: pixels in both P(i) and P(i+1)."
+-- Rule 3.3: part in both layers
 unfoldable pub seeds : Plane → Plane → Plane
 seeds low up p = low p && up p
 
--- "near shadow pixels": those that may carry a ring
+-- Rule 3.4: the pixels that may carry a ring
 unfoldable pub reached : ℕ → ℕ → ℕ → Plane → Plane → Plane
 reached w h q low up p = shadow low up p && near w h q low p
 
--- "one of its eight neighbours": the pixel o is one of p's
+-- Rule 3.5: the pixel o is one of p's eight neighbours
 unfoldable pub touch : ℕ → ℕ → ℕ → Bool
 touch w p o = leb (apart (p / w) (o / w)) 1 && leb (apart (p % w) (o % w)) 1 && not (eqb p o)
 
--- Growing, over m pixels with any neighbours, any free pixels (those that may carry a ring) and any seeds ------------------
+-- Rule 3.6, growing, over m pixels with any neighbours, any free pixels (those that may carry a ring) and any seeds ------
 
--- what a pixel of ring k + 1 must touch: a pixel of ring k, and "for k = 1 the neighbour must be a seed", so for k + 1 = 1 here
+-- what a pixel of ring k + 1 must touch: a pixel of ring k, and for ring 1 that is a seed
 unfoldable pub source : Plane → (ℕ → ℕ) → ℕ → Plane
 source seed ring k o = eqb (ring o) k && (ltb 0 k || seed o)
 
@@ -42,8 +42,7 @@ module _ (m : ℕ) (touch : ℕ → ℕ → Bool) where
   unfoldable pub fits : Plane → Plane → (ℕ → ℕ) → ℕ → Plane
   fits free seed ring k p = free p && touching (source seed ring k) p
 
-  -- "Each shadow pixel that is near and has one of its eight neighbours among the seeds gets ring 1. Each further near shadow
-  -- pixel with a neighbour of ring k, and no smaller ring of its own, gets ring k+1": step k gives ring k + 1
+  -- step k gives ring k + 1 to each pixel that has no ring yet and may carry it
   unfoldable pub grow : Plane → Plane → ℕ → List ℕ → List ℕ
   grow free seed k l = each 0 m λ p. cond (eqb (getD l p 0) 0 && fits free seed (λ o. getD l o 0) k p) (suc k) (getD l p 0)
 
@@ -52,7 +51,7 @@ module _ (m : ℕ) (touch : ℕ → ℕ → Bool) where
   grown free seed zero = each 0 m λ p. 0
   grown free seed (suc k) = grow free seed k (grown free seed k)
 
--- "until none is added": a plane of h * w pixels is grown after as many steps (growing-ends of the laws)
+-- until none is added: a plane of h * w pixels is grown after as many steps (growing-ends of the laws)
 unfoldable pub ringPlane : ℕ → ℕ → (ℕ → ℕ) → Stack → ℕ → List ℕ
 ringPlane w h q part i =
     grown (h * w) (touch w) (reached w h (q i) (part i) (part (suc i))) (seeds (part i) (part (suc i))) (h * w)
@@ -60,31 +59,31 @@ ringPlane w h q part i =
 unfoldable pub rings : ℕ → ℕ → ℕ → (ℕ → ℕ) → Stack → List ℕ
 rings w h n q part = joinedUp 0 (n - 1) (ringPlane w h q part)
 
--- "A pixel with a ring is excused."
+-- Rule 3.7: a pixel with a ring is excused
 unfoldable pub excused : Rings → Stack
 excused ring i p = ltb 0 (ring i p)
 
--- Support -----------------------------------------------------------------------------------------------------------------
+-- Rule 3.8: support ------------------------------------------------------------------------------------------------------
 
--- "S(i) = shadow pixels not excused, with S(i+1), without P(i)": the support of layer i where that of the layer d above it is
+-- the unexcused shadow, with the support above and without the part: the support of layer i where that of the layer d above it is
 -- `above`; `painted` is wanted besides, and is empty in plain planning
 unfoldable pub supportUnder : Stack → Stack → Rings → Plane → ℕ → Stack
 supportUnder part painted ring above zero i p = above p
 supportUnder part painted ring above (suc d) i p =
     (shadow (part i) (part (suc i)) p && not (excused ring i p) || supportUnder part painted ring above d (suc i) p || painted i p) && not (part i p)
 
--- "S(N−1) is empty", but for what is painted there outside the part
+-- the top layer has none, but for what is painted there outside the part
 unfoldable pub topOf : ℕ → Stack → Stack → Plane
 topOf n part painted p = painted (n - 1) p && not (part (n - 1) p)
 
--- "Go down from i = N−2 to 0."
+-- from the layer below the top down to layer 0
 unfoldable pub planned : ℕ → Stack → Stack → Rings → Stack
 planned n part painted ring i p = supportUnder part painted ring (topOf n part painted) (n - 1 - i) i p
 
 unfoldable pub empty : Stack
 empty i p = false
 
--- the planned ring numbers and the bytes of the planned support, from the bytes of the part
+-- Rule 3.9: the planned ring numbers and the bytes of the planned support, from the bytes of the part
 unfoldable pub plannedRings : ℕ → ℕ → ℕ → (ℕ → ℕ) → List ℕ → List ℕ
 plannedRings w h n q part = rings w h n q (pixel w h part)
 
@@ -92,7 +91,7 @@ unfoldable pub plannedBytes : ℕ → ℕ → ℕ → (ℕ → ℕ) → List ℕ
 plannedBytes w h n q part =
     bytesOf w h n (planned n (pixel w h part) empty (ringAt w h (plannedRings w h n q part)))
 
--- The chapter's algorithms, by their lines. The distance map of lines 3 and 4 is 01's near; lines 5 and 10, 'while C ≠ ∅', are a number
+-- Rule 3.10: the chapter's algorithms, by their lines. The distance map of lines 3 and 4 is rule 3.2; lines 5 and 10, 'while C ≠ ∅', are a number
 -- of iterations, and the laws show that as many as there are pixels are enough (swallow-ends) and stopping sooner is the same (swallow-stops)
 
 module _ (m : ℕ) (touch : ℕ → ℕ → Bool) (psi low up within : Plane) where

@@ -1,4 +1,4 @@
--- 'The report program' of 01: what it prints for any input, as the bytes of its text.
+-- Rules 7: what the report program prints for any input, as the bytes of its text.
 use mathlib.Core.Bool.{Bool, true, false, cond}
 use mathlib.Core.List.{List, [], _∷_, _++_}
 use Prim.Native.Nat.{ℕ, zero, suc, _+_, _-_, _*_, _/_, _%_}
@@ -12,7 +12,7 @@ use Rattle.rules.specs.Jobs.{settingsIn, partIn}
 use Rattle.rules.specs.Calls.{readCases}
 use Rattle.rules.specs.declared.Settings.{Settings}
 
--- a number in decimal, of at most as many digits as the first argument says; 48 is the digit 0
+-- Rule 7.4: a number in decimal, of at most as many digits as the first argument says; 48 is the digit 0
 unfoldable pub digits : ℕ → ℕ → List ℕ
 digits zero x = []
 digits (suc k) x = cond (ltb x 10) [] (digits k (x / 10)) ++ (48 + x % 10) ∷ []
@@ -20,36 +20,36 @@ digits (suc k) x = cond (ltb x 10) [] (digits k (x / 10)) ++ (48 + x % 10) ∷ [
 unfoldable pub decimal : ℕ → List ℕ
 decimal x = digits (suc x) x
 
--- a space and a number; the end of a line
+-- Rule 7.4: a space and a number; the end of a line
 unfoldable pub spaced : ℕ → List ℕ
 spaced x = 32 ∷ decimal x
 
 abbrev pub newline : List ℕ
 newline = 10 ∷ []
 
--- `refused` and a number
+-- Rule 7.2: `refused` and a number
 unfoldable pub refusedLine : ℕ → List ℕ
 refusedLine k = 114 ∷ 101 ∷ 102 ∷ 117 ∷ 115 ∷ 101 ∷ 100 ∷ spaced k ++ newline
 
--- "First line: W, H, N and R.": `job`, the three, `reach`, and R
+-- Rule 7.3: `job`, the three sizes, `reach`, and the reach
 unfoldable pub jobLine : Settings → List ℕ
 jobLine s =
     106 ∷ 111 ∷ 98 ∷ spaced (s .w) ++ spaced (s .h) ++ spaced (s .n)
     ++ 32 ∷ 114 ∷ 101 ∷ 97 ∷ 99 ∷ 104 ∷ spaced (reachOf (s .pitch) (s .overhang) .0)
     ++ newline
 
--- the filled pixels of a layer, and the excused pixels of the pair above it, "0 for the top"
+-- Rule 7.3: the filled pixels of a layer, and the excused pixels of the pair above it, 0 for the top
 unfoldable pub filled : Settings → Stack → ℕ → ℕ
 filled s f i = count (s .h * s .w) (f i)
 
 unfoldable pub excusedAbove : Settings → Rings → ℕ → ℕ
 excusedAbove s ring i = cond (ltb (suc i) (s .n)) (count (s .h * s .w) (excused ring i)) 0
 
--- "layer, part pixels, support pixels, excused pixels of the pair above that layer"
+-- Rule 7.3: a layer, its part pixels, its support pixels, the excused pixels of the pair above it
 unfoldable pub layerLine : Settings → Stack → Stack → Rings → ℕ → List ℕ
 layerLine s part sup ring i = decimal i ++ spaced (filled s part i) ++ spaced (filled s sup i) ++ spaced (excusedAbove s ring i) ++ newline
 
--- "It reads a job from standard input, plans afresh (stored support is only read over) and prints." "Then from the top layer down"
+-- Rule 7.3: the part is planned afresh, and its layers are told from the top down
 unfoldable pub planLines : Settings → List ℕ → List ℕ
 planLines s part =
     let q : ℕ → ℕ = boundOf s in
@@ -58,8 +58,7 @@ planLines s part =
     jobLine s
     ++ joinedUp 0 (s .n) λ k. layerLine s (pixel (s .w) (s .h) part) (pixel (s .w) (s .h) sup) (ringAt (s .w) (s .h) ring) (s .n - 1 - k)
 
--- "Over 65,536 input bytes, or after a good read (N−1)·W·H over 32,768, it prints `refused 17`; the first is tested before reading
--- the job. Other refusals print `refused` and the number."
+-- Rule 7.1: the length of the input before anything else, the room for rings after a good read
 unfoldable pub reportCases : List ℕ → List Case
 reportCases f =
     (17 when ltb 65536 (length f))
