@@ -1,0 +1,97 @@
+# shellcheck shell=bash disable=SC2034  # what is set here, those who source it use
+# What the scripts need of this machine: the library brought up to date, compilers, emulators, the kit's tools.
+#
+# Sourced by cli/build, tests/run, tests/wasm/run, bench/run and ports/build, at the top of the repository. Programs are built for x86_64,
+# which the proved library is code for, or for aarch64, which a port is code for. On a machine of that kind they run as they are, on the
+# other under qemu-user. What is missing is installed with apt-get.
+
+machine=$(uname -m)
+library=target/staticlib/libkitegimlet.a
+port=target/ports/libkitegimlet-aarch64.a
+wasm=target/ports/kitegimlet.wasm
+
+die() {
+    echo "${0##"$PWD"/}: $*" >&2
+    exit 2
+}
+
+# ---- Packages ----
+
+apt() { "${as_root[@]}" apt-get -o DPkg::Lock::Timeout=300 "$@"; }
+
+# install PACKAGE..
+install() {
+    as_root=()
+    if [ "$(id -u)" -ne 0 ]; then as_root=(sudo); fi
+    command -v apt-get >/dev/null || die "please install $*"
+    echo "installing $*" >&2
+    mkdir -p target
+    { apt install -y --no-install-recommends "$@" || { apt update && apt install -y --no-install-recommends "$@"; }; } >target/apt.log 2>&1 ||
+        die "please install $*: apt-get could not, target/apt.log says why"
+}
+
+# need COMMAND PACKAGE..
+need() { command -v "$1" >/dev/null || install "${@:2}"; }
+
+# ---- Compilers and emulators ----
+
+# links COMPILER FLAG..: whether a small program can be built with them
+links() { echo 'int main(void) { return 0; }' | "$1" "${@:2}" -x c -o /dev/null - 2>/dev/null; }
+
+# tools_for x86_64|aarch64: sets compiler, for_target (its flags) and emulator (words before a program)
+tools_for() {
+    local triple=$1-linux-gnu name=$1
+    case $machine in x86_64 | aarch64) ;; *) die "no way to run the library on $machine" ;; esac
+    if [ "$1" = "$machine" ]; then
+        compiler=gcc for_target=() emulator=()
+        links gcc || install gcc libc6-dev
+        return
+    fi
+    compiler=$triple-gcc for_target=(-static) emulator=("qemu-$1")
+    case $1 in x86_64) name=amd64 ;; aarch64) name=arm64 ;; esac
+    links "$compiler" -static || install "gcc-${triple/_/-}" "libc6-dev-$name-cross"
+    need "qemu-$1" qemu-user
+}
+
+# find_kit: sets kit, the folder of the proof tools for this machine, with bin/ and toolchain/bin/
+find_kit() {
+    local home
+    home=${RATTLE_HOME:-$(dirname "$(dirname "$(readlink -f "$(command -v rt)")")")}
+    kit=$home/on/$machine
+}
+
+# ---- The library ----
+
+# What the library depends on, as one number: its sources with their proofs, and the kit.
+sources_sum() {
+    {
+        rt version
+        cat crates.txt
+        find crates -type f \( -path '*/src/*' -o -path '*/specs/*' -o -path '*/proofs/*' \) -exec sha256sum {} + | sort
+    } | sha256sum | cut -d' ' -f1
+}
+
+# stamp FILE..: what a build was made of and what it made, for is_fresh next time
+stamp() { { sources_sum; sha256sum "$@"; } 2>/dev/null | sha256sum; }
+is_fresh() { [ -f "$1" ] && [ "$(cat "$1")" = "$(stamp "${@:2}")" ]; }
+
+# Proves and builds the library where anything changed since it was built.
+bring_library() {
+    command -v rt >/dev/null || { [ -f "$library" ] && return; } || die "$library is missing, and so is rt, which builds it"
+    if is_fresh target/staticlib/stamp "$library"; then return; fi
+    echo 'proving and building the library: some minutes the first time' >&2
+    mkdir -p target/staticlib
+    prove_below
+    rt staticlib kitegimlet >target/staticlib/log 2>&1 || { tail -n 20 target/staticlib/log >&2; die 'the library cannot be built: see target/staticlib/log'; }
+    stamp "$library" >target/staticlib/stamp
+}
+
+# The crates that the library leans on.
+crates_below() { sed -n 's/^kitegimlet: *//p' crates.txt; }
+
+# Proves them, several at a time.
+prove_below() {
+    # shellcheck disable=SC2046  # a list of names
+    rt check $(crates_below) >target/staticlib/log 2>&1 ||
+        { tail -n 20 target/staticlib/log >&2; die 'the library is not proved: see target/staticlib/log'; }
+}
