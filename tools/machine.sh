@@ -1,7 +1,7 @@
 # shellcheck shell=bash disable=SC2034  # what is set here, those who source it use
 # What the scripts need of this machine: the library brought up to date, compilers, emulators, the kit's tools.
 #
-# Sourced by cli/build, tests/run, tests/wasm/run, bench/run and ports/build, at the top of the repository. Programs are built for x86_64,
+# Sourced by cli/build, tests/run, tests/ports/run, bench/run and ports/build, at the top of the repository. Programs are built for x86_64,
 # which the proved library is code for, or for aarch64, which a port is code for. On a machine of that kind they run as they are, on the
 # other under qemu-user. What is missing is installed with apt-get.
 
@@ -37,6 +37,15 @@ need() { command -v "$1" >/dev/null || install "${@:2}"; }
 
 # links COMPILER FLAG..: whether a small program can be built with them
 links() { echo 'int main(void) { return 0; }' | "$1" "${@:2}" -x c -o /dev/null - 2>/dev/null; }
+
+# runs COMPILER FLAG..: whether that program ends well here
+runs() {
+    local program status=0
+    program=$(mktemp)
+    echo 'int main(void) { return 0; }' | "$1" "${@:2}" -x c -o "$program" - && "$program" 2>/dev/null || status=1
+    rm -f "$program"
+    return $status
+}
 
 # tools_for x86_64|aarch64: sets compiler, for_target (its flags) and emulator (words before a program)
 tools_for() {
