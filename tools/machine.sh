@@ -104,3 +104,11 @@ prove_below() {
     rt check $(crates_below) >target/staticlib/log 2>&1 ||
         { tail -n 20 target/staticlib/log >&2; die 'the library is not proved: see target/staticlib/log'; }
 }
+
+# The library, and on Arm its port, where the kit makes one.
+bring_native() {
+    case $machine in
+    aarch64) ports/build ;;
+    *) bring_library ;;
+    esac
+}
