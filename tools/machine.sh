@@ -1,9 +1,9 @@
 # shellcheck shell=bash disable=SC2034  # what is set here, those who source it use
 # What the scripts need of this machine: the library brought up to date, compilers, emulators, the kit's tools.
 #
-# Sourced by cli/build, tests/run, tests/ports/run, bench/run and ports/build, at the top of the repository. Programs are built for x86_64,
-# which the proved library is code for, or for aarch64, which a port is code for. On a machine of that kind they run as they are, on the
-# other under qemu-user. What is missing is installed with apt-get.
+# Sourced by cli/build, ports/build, bench/run, tests/run, tests/sanitized and tests/ports/run, at the top of the repository. Programs are
+# built for x86_64, which the proved library is code for, or for aarch64, which a port is code for. On a machine of that kind they run as
+# they are, on the other under qemu-user. What is missing is installed with apt-get.
 
 machine=$(uname -m)
 library=target/staticlib/libkitegimlet.a
@@ -17,7 +17,7 @@ die() {
 
 # ---- Packages ----
 
-apt() { "${as_root[@]}" apt-get -o DPkg::Lock::Timeout=300 "$@"; }
+apt_get() { "${as_root[@]}" apt-get -o DPkg::Lock::Timeout=300 "$@"; }
 
 # install PACKAGE..
 install() {
@@ -26,7 +26,7 @@ install() {
     command -v apt-get >/dev/null || die "please install $*"
     echo "installing $*" >&2
     mkdir -p target
-    { apt install -y --no-install-recommends "$@" || { apt update && apt install -y --no-install-recommends "$@"; }; } >target/apt.log 2>&1 ||
+    { apt_get install -y --no-install-recommends "$@" || { apt_get update && apt_get install -y --no-install-recommends "$@"; }; } >target/apt.log 2>&1 ||
         die "please install $*: apt-get could not, target/apt.log says why"
 }
 
@@ -84,15 +84,15 @@ sources_sum() {
 stamp() { { sources_sum; sha256sum "$@"; } 2>/dev/null | sha256sum; }
 is_fresh() { [ -f "$1" ] && [ "$(cat "$1")" = "$(stamp "${@:2}")" ]; }
 
+library_is_fresh() { is_fresh target/staticlib/stamp "$library"; }
+
 # Proves and builds the library where anything changed since it was built.
 bring_library() {
     command -v rt >/dev/null || { [ -f "$library" ] && return; } || die "$library is missing, and so is rt, which builds it"
-    if is_fresh target/staticlib/stamp "$library"; then return; fi
+    if library_is_fresh; then return; fi
     echo 'proving and building the library: some minutes the first time' >&2
-    mkdir -p target/staticlib
     prove_below
-    rt staticlib kitegimlet >target/staticlib/log 2>&1 || { tail -n 20 target/staticlib/log >&2; die 'the library cannot be built: see target/staticlib/log'; }
-    stamp "$library" >target/staticlib/stamp
+    build_library
 }
 
 # The crates that the library leans on.
@@ -101,8 +101,21 @@ crates_below() { sed -n 's/^kitegimlet: *//p' crates.txt; }
 # Proves them, several at a time.
 prove_below() {
     # shellcheck disable=SC2046  # a list of names
-    rt check $(crates_below) >target/staticlib/log 2>&1 ||
-        { tail -n 20 target/staticlib/log >&2; die 'the library is not proved: see target/staticlib/log'; }
+    logged target/staticlib/log rt check $(crates_below)
+}
+
+build_library() {
+    logged target/staticlib/log rt staticlib kitegimlet
+    grep '^logic=' target/staticlib/log
+    stamp "$library" >target/staticlib/stamp
+}
+
+# logged LOG COMMAND..: what it says goes to the log, whose end is shown where it fails
+logged() {
+    mkdir -p "$(dirname "$1")"
+    if "${@:2}" >"$1" 2>&1; then return; fi
+    tail -n 20 "$1" >&2
+    die "this failed, $1 says how: ${*:2}"
 }
 
 # The library, and on Arm its port, where the kit makes one.
