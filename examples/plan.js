@@ -1,6 +1,6 @@
-// Plans support for a small part with the wasm port: `ports/build && node examples/plan.js`. A page does the same with bytes that it fetched.
+// Plans support for a small part with the wasm port: `ports/build && node examples/plan.js`. A page does the same with bytes it fetched.
 //
-// The calls are those of include/kitegimlet.h. A pointer and a number of 32 bits are JavaScript numbers, lengths, sizes and answers BigInts.
+// The calls are those of include/kitegimlet.h. Pointers and numbers of 32 bits are JavaScript numbers; sizes, lengths and answers are BigInts.
 // Buffers stand in the port's own memory, from __heap_base on; the caller shares it out.
 'use strict';
 const fs = require('fs');

@@ -34,7 +34,8 @@ static void put_buffer(FILE *to, const struct buffer *b, const uint8_t *after)
 
 void record(FILE *to, uint64_t number, const struct trial *t, const struct outcome *right)
 {
-    uint64_t head[] = {number, t->call, t->place, t->skew, (uint64_t)t->null_for_empty, t->w, t->h, t->n, t->pitch, t->overhang, right->answer};
+    uint64_t head[] = {number, t->call, t->place, t->skew, (uint64_t)t->null_for_empty, t->w, t->h, t->n, t->pitch, t->overhang,
+                       right->answer};
     for (size_t k = 0; k < sizeof head / sizeof *head; k++) put_number(to, head[k]);
     for (int which = 0; which < LENTS; which++)
         if (uses(t->call, which)) put_buffer(to, &t->lent[which], right->after[which]);

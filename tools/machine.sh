@@ -19,6 +19,8 @@ die() {
 
 apt_get() { "${as_root[@]}" apt-get -o DPkg::Lock::Timeout=300 "$@"; }
 
+apt_install() { apt_get install -y --no-install-recommends "$@"; }
+
 # install PACKAGE..
 install() {
     as_root=()
@@ -26,7 +28,7 @@ install() {
     command -v apt-get >/dev/null || die "please install $*"
     echo "installing $*" >&2
     mkdir -p target
-    { apt_get install -y --no-install-recommends "$@" || { apt_get update && apt_get install -y --no-install-recommends "$@"; }; } >target/apt.log 2>&1 ||
+    apt_install "$@" >target/apt.log 2>&1 || { apt_get update && apt_install "$@"; } >target/apt.log 2>&1 ||
         die "please install $*: apt-get could not, target/apt.log says why"
 }
 

@@ -207,7 +207,8 @@ function watch(words, patience) {
     const worker = new Worker(__filename, { workerData: { words, progress } });
     let seen = 0;
     const timer = setInterval(() => {
-        if (progress[0] === seen && seen > 0) end({ said: `difference in ${CALLS[progress[2]]}, case ${progress[1]}: the call did not end`, passed: 0, failed: 1 });
+        const said = `difference in ${CALLS[progress[2]]}, case ${progress[1]}: the call did not end`;
+        if (progress[0] === seen && seen > 0) end({ said, passed: 0, failed: 1 });
         seen = progress[0];
     }, patience * 1000);
     const end = ({ said, passed, failed }) => {
