@@ -92,7 +92,6 @@ library_is_fresh() { is_fresh target/staticlib/stamp "$library"; }
 bring_library() {
     command -v rt >/dev/null || { [ -f "$library" ] && return; } || die "$library is missing, and so is rt, which builds it"
     if library_is_fresh; then return; fi
-    echo 'proving and building the library: some minutes the first time' >&2
     prove_below
     build_library
 }
@@ -102,6 +101,7 @@ crates_below() { sed -n 's/^kitegimlet: *//p' crates.txt; }
 
 # Proves them, several at a time.
 prove_below() {
+    echo 'proving and building the library: some minutes the first time' >&2
     # shellcheck disable=SC2046  # a list of names
     logged target/staticlib/log rt check $(crates_below)
 }
