@@ -1,12 +1,15 @@
 /* The benchmark's driver: runs one call on one input, a number of times.
  *
  * usage: bench WHAT INPUT W H N R TIMES
+ *        bench clock INPUT W H N R ROUNDS
  *
  * WHAT is plan or check (the library), peer-plan or peer-check (the peer), tuned-plan or tuned-check (the peer that is tuned further),
  * floor (what no planner can do without: zeroing the ring planes and copying the part), or compare (all three must agree on every byte).
  * A check judges what was planned before, by the tuned peer, which is not part of the TIMES. INPUT is empty, solid, sphere, lattice, noise
- * or spiral; R is the reach in pixels. Prints the seconds by the clock for the TIMES. With TIMES 0 only the input is made, so what a call
- * costs by any measure is the difference.
+ * or spiral; R is the reach in pixels. With TIMES 0 only the input is made, so what a call costs by any measure is the difference.
+ *
+ * clock lets floor, planners and checkers take turns, ROUNDS times, and prints a line for each: WHAT, then the milliseconds of each round
+ * by the clock that counts the time that this thread had a processor. A round before these is not counted.
  */
 #define _POSIX_C_SOURCE 199309L
 #include "inputs.h"
@@ -134,11 +137,11 @@ static struct job make_job(char **words)
     return j;
 }
 
-static double seconds(void)
+static double milliseconds(void)
 {
     struct timespec t;
-    clock_gettime(CLOCK_MONOTONIC, &t);
-    return (double)t.tv_sec + (double)t.tv_nsec / 1e9;
+    clock_gettime(CLOCK_THREAD_CPUTIME_ID, &t);
+    return (double)t.tv_sec * 1e3 + (double)t.tv_nsec / 1e6;
 }
 
 /* Runs what is named; false where nothing has that name. */
@@ -161,6 +164,37 @@ static int run(const char *what, const struct job *j)
     return 0;
 }
 
+/* ---- The clock ---- */
+
+static const char *const turns[] = {"floor", "plan", "peer-plan", "tuned-plan", "check", "peer-check", "tuned-check"};
+
+enum { TURNS = sizeof turns / sizeof *turns, MOST_ROUNDS = 1000 };
+
+static int is_check(const char *what) { return strstr(what, "check") != NULL; }
+
+/* The time of one call. Whose turn it is finds buffers and caches as the others do: just filled, or just planned for a check. */
+static double took(const char *what, const struct job *j)
+{
+    double began;
+    if (is_check(what)) plan_by(tuned_plan, j);
+    else spoil(j);
+    began = milliseconds();
+    run(what, j);
+    return milliseconds() - began;
+}
+
+static void clock_rounds(const struct job *j, size_t rounds)
+{
+    static double times[TURNS][MOST_ROUNDS + 1];
+    for (size_t round = 0; round <= rounds; round++)
+        for (size_t k = 0; k < TURNS; k++) times[k][round] = took(turns[k], j);
+    for (size_t k = 0; k < TURNS; k++) {
+        printf("%s", turns[k]);
+        for (size_t round = 1; round <= rounds; round++) printf(" %.4f", times[k][round]);
+        printf("\n");
+    }
+}
+
 int main(int count, char **words)
 {
     if (count != 8) die("usage: bench WHAT INPUT W H N R TIMES");
@@ -170,10 +204,12 @@ int main(int count, char **words)
         compare(&j);
         return 0;
     }
-    if (strstr(words[1], "check") != NULL) plan_by(tuned_plan, &j);
-    double began = seconds();
+    if (strcmp(words[1], "clock") == 0) {
+        clock_rounds(&j, times < MOST_ROUNDS ? times : MOST_ROUNDS);
+        return 0;
+    }
+    if (is_check(words[1])) plan_by(tuned_plan, &j);
     for (size_t k = 0; k < times; k++)
         if (!run(words[1], &j)) die("no such thing to run");
-    printf("%.6f\n", seconds() - began);
     return 0;
 }

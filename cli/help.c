@@ -20,6 +20,7 @@ const char help_kg[] =
     "  kg report JOB                 count part, support and excused pixels by layer\n"
     "  kg show JOB LAYER [--rings]   one layer as a picture, or its ring numbers\n"
     "  kg COMMAND --help             more on a command, with examples\n"
+    "  kg --version                  version, and which build of the library\n"
     "\n"
     "IN, JOB and OUT are job files; - is standard input or standard output. Behind\n"
     "-- a word that begins with - is a file name. Layers, rows and columns are\n"

@@ -4,6 +4,15 @@
 
 #include "kg.h"
 
+/* Which build of the library this is: what is proved is the code for x86-64. */
+#if defined __x86_64__
+#define BUILD "library for x86-64, proved"
+#elif defined __aarch64__
+#define BUILD "library for aarch64, a port: tested, not promised"
+#else
+#error "there is no library for this machine"
+#endif
+
 struct command {
     const char *name;
     const char *usage;
@@ -90,6 +99,10 @@ static enum status run(int count, char *words[])
         return fail("no command given (see kg --help)");
     if (is_help(words[1])) {
         fputs(help_kg, stdout);
+        return DONE;
+    }
+    if (strcmp(words[1], "--version") == 0) {
+        puts("kg " KG_VERSION " (" BUILD ")");
         return DONE;
     }
     const struct command *command = find_command(words[1]);

@@ -15,6 +15,8 @@
 
 #include <stdint.h>
 
+#define KG_VERSION "0.1"
+
 #ifdef __cplusplus
 extern "C" {
 #endif

@@ -5,7 +5,9 @@
  *   lend.c    lends the buffers of a trial to the library and to the peer, and watches the memory around them
  *   shrink.c  makes a failing trial smaller
  *   pieces.c  the bench pieces and limits, with their answers
- *   driver.c  compares, counts, tells
+ *   met.c     counts what was met
+ *   record.c  writes trials down
+ *   driver.c  compares, tells
  */
 #ifndef TRIAL_H
 #define TRIAL_H

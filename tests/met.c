@@ -1,0 +1,231 @@
+/* What was met: how often each call was compared, each refusal number given, and each kind of accepted input tried. */
+#include "met.h"
+
+#include <stdio.h>
+#include <string.h>
+
+enum { NUMBERS = 17, LOOKED_AT = 1000000 };
+
+unsigned long compared[CALLS];
+
+static unsigned long met[CALLS][NUMBERS];
+
+/* The refusal numbers that each call can give, 0 for acceptance; 15 cannot be reached. */
+static const char *const can_give[CALLS] = {"0 2 3 ", "0 1 2 3 4 5 6 7 ", "0 1 2 3 4 5 6 7 8 9 10 11 ", "0 1 2 3 7 8 12 13 14 ", "", "",
+                                            "0 1 2 3 6 7 8 12 13 14 ", "0 1 2 3 4 5 6 7 8 16 "};
+
+enum kind {
+    REACH_0, REACH_MIDDLE, REACH_32,
+    PLAN_ONE_LAYER, PLAN_NOTHING, PLAN_SUPPORT, PLAN_RINGS, PLAN_LONG_RINGS, PLAN_CARRIED, PLAN_STOPPED, PLAN_NOT_JOINED,
+    PLAN_WIDEST, PLAN_HIGHEST, PLAN_LAYERS, PLAN_REACH_32,
+    CHECK_AS_PLANNED, CHECK_MORE, CHECK_LARGER, CHECK_FEWER, CHECK_ONE_LAYER,
+    BAD_NO_SHADOW, BAD_NOT_NEAR, BAD_NO_NEIGHBOUR,
+    READ_STORED, READ_NONE, READ_ONE_LAYER, READ_SHORT,
+    PART_HANDED, PART_EMPTY, SUPPORT_HANDED, SUPPORT_EMPTY,
+    COPY_SOME, COPY_NONE,
+    WRITE_STORED, WRITE_NONE, WRITE_EXACT, WRITE_LONGER,
+    NULL_BUFFER, LONG_BUFFER, LARGEST_SIZE,
+    KINDS
+};
+
+static const char *const kind_names[KINDS] = {
+    "reach: 0", "reach: 1 to 31", "reach: 32",
+    "plan: one layer", "plan: neither support nor rings", "plan: support", "plan: rings", "plan: a ring over 255",
+    "plan: support from above carried down", "plan: support from above stopped by part", "plan: near but not joined",
+    "plan: width 256 with support or rings", "plan: height 256 with support or rings", "plan: 512 layers with support or rings",
+    "plan: rings with reach 32",
+    "check: accepted as planned", "check: accepted with more support", "check: accepted with larger rings",
+    "check: accepted with support for a ring", "check: accepted with one layer",
+    "check: bad ring outside the shadow", "check: bad ring not near", "check: bad ring without a neighbour before it",
+    "read: support stored", "read: none stored", "read: one layer stored", "read: fewer told than there are",
+    "part: handed back", "part: empty", "support: handed back", "support: empty",
+    "copy_rings: some", "copy_rings: none",
+    "write: with support", "write: without", "write: room just enough", "write: room to spare",
+    "a null pointer for an empty buffer", "a buffer of 2^32 elements and more", "the largest size",
+};
+
+static unsigned long kinds[KINDS];
+
+static void meet(enum kind kind, int is_met) { kinds[kind] += is_met ? 1 : 0; }
+
+/* ---- Kinds of plans ---- */
+
+static int part_at(const struct trial *t, uint64_t layer, uint64_t row, uint64_t column)
+{
+    return pixel(t->lent[PART_STACK].bytes, t->w, t->h, layer, row, column);
+}
+
+static int shadow_at(const struct trial *t, uint64_t plane, uint64_t row, uint64_t column)
+{
+    return part_at(t, plane + 1, row, column) && !part_at(t, plane, row, column);
+}
+
+static int near_at(const struct trial *t, uint64_t plane, uint64_t row, uint64_t column)
+{
+    int64_t reach = t->overhang / t->pitch;
+    for (uint64_t r = 0; r < t->h; r++)
+        for (uint64_t c = 0; c < t->w; c++) {
+            int64_t dr = (int64_t)r - (int64_t)row, dc = (int64_t)c - (int64_t)column;
+            if (dr * dr + dc * dc <= reach * reach && part_at(t, plane, r, c)) return 1;
+        }
+    return 0;
+}
+
+struct planned {
+    int support, carried, stopped, rings, long_rings, not_joined;
+};
+
+static void look_at_pixel(const struct trial *t, const struct outcome *o, uint64_t plane, uint64_t row, uint64_t column, struct planned *p)
+{
+    struct buffer rings;
+    unsigned ring;
+    int above = pixel(o->after[SUPPORT_STACK], t->w, t->h, plane + 1, row, column);
+    int here = pixel(o->after[SUPPORT_STACK], t->w, t->h, plane, row, column);
+    rings.bytes = o->after[RING_PLANES];
+    ring = ring_at(&rings, (plane * t->h + row) * t->w + column);
+    p->support |= here;
+    p->carried |= above && here;
+    p->stopped |= above && part_at(t, plane, row, column);
+    p->rings |= ring > 0;
+    p->long_rings |= ring > 255;
+    if (t->w * t->h <= 100 && ring == 0 && shadow_at(t, plane, row, column) && !p->not_joined)
+        p->not_joined = near_at(t, plane, row, column);
+}
+
+static void note_plan(const struct trial *t, const struct outcome *o)
+{
+    struct planned p;
+    if (t->w * t->h * t->n > LOOKED_AT) return;
+    memset(&p, 0, sizeof p);
+    for (uint64_t plane = 0; plane + 1 < t->n; plane++)
+        for (uint64_t row = 0; row < t->h; row++)
+            for (uint64_t column = 0; column < t->w; column++) look_at_pixel(t, o, plane, row, column, &p);
+    meet(PLAN_ONE_LAYER, t->n == 1);
+    meet(PLAN_NOTHING, t->n > 1 && !p.support && !p.rings);
+    meet(PLAN_SUPPORT, p.support);
+    meet(PLAN_RINGS, p.rings);
+    meet(PLAN_LONG_RINGS, p.long_rings);
+    meet(PLAN_CARRIED, p.carried);
+    meet(PLAN_STOPPED, p.stopped);
+    meet(PLAN_NOT_JOINED, p.not_joined);
+    meet(PLAN_WIDEST, t->w == 256 && (p.support || p.rings));
+    meet(PLAN_HIGHEST, t->h == 256 && (p.support || p.rings));
+    meet(PLAN_LAYERS, t->n == 512 && (p.support || p.rings));
+    meet(PLAN_REACH_32, t->overhang / t->pitch == 32 && p.rings);
+}
+
+/* ---- Kinds of the other calls ---- */
+
+static void note_check(const struct trial *t, uint64_t answer)
+{
+    if (kg_number(answer) == 0) {
+        meet(CHECK_AS_PLANNED, (t->marks & AS_PLANNED) != 0);
+        meet(CHECK_MORE, (t->marks & MORE_SUPPORT) != 0);
+        meet(CHECK_LARGER, (t->marks & LARGER_RINGS) != 0);
+        meet(CHECK_FEWER, (t->marks & FEWER_RINGS) != 0);
+        meet(CHECK_ONE_LAYER, t->n == 1);
+    } else if (kg_number(answer) == 10) {
+        uint64_t plane = kg_layer(answer) - 1;
+        int shadow = shadow_at(t, plane, kg_row(answer), kg_column(answer));
+        int near = near_at(t, plane, kg_row(answer), kg_column(answer));
+        meet(BAD_NO_SHADOW, !shadow);
+        meet(BAD_NOT_NEAR, shadow && !near);
+        meet(BAD_NO_NEIGHBOUR, shadow && near);
+    }
+}
+
+static void note_read(const struct trial *t)
+{
+    uint64_t support_count = t->lent[SUPPORT_STACK].len;
+    meet(READ_STORED, support_count != 0);
+    meet(READ_NONE, support_count == 0);
+    meet(READ_ONE_LAYER, t->n == 1 && support_count != 0);
+    meet(READ_SHORT, t->lent[TOLD].len < KG_TOLD);
+}
+
+static void note_write(const struct trial *t, uint64_t answer)
+{
+    meet(WRITE_STORED, t->lent[SUPPORT_STACK].len != 0);
+    meet(WRITE_NONE, t->lent[SUPPORT_STACK].len == 0);
+    meet(WRITE_EXACT, kg_value(answer) == t->lent[OUT].len);
+    meet(WRITE_LONGER, kg_value(answer) < t->lent[OUT].len);
+}
+
+static void note_reach(uint64_t answer)
+{
+    meet(REACH_0, kg_value(answer) == 0);
+    meet(REACH_MIDDLE, kg_value(answer) > 0 && kg_value(answer) < 32);
+    meet(REACH_32, kg_value(answer) == 32);
+}
+
+static void note_buffers(const struct trial *t)
+{
+    for (int which = 0; which < LENTS; which++) {
+        if (!uses(t->call, which)) continue;
+        meet(NULL_BUFFER, t->null_for_empty && t->lent[which].len == 0);
+        meet(LONG_BUFFER, is_long(&t->lent[which], which));
+    }
+    meet(LARGEST_SIZE, t->w == 256 && t->h == 256 && t->n == 512);
+}
+
+void note(const struct trial *t, const struct outcome *o)
+{
+    unsigned number = kg_number(o->answer);
+    compared[t->call]++;
+    note_buffers(t);
+    if (t->call == PART || t->call == SUPPORT) {
+        meet(t->call == PART ? PART_HANDED : SUPPORT_HANDED, o->answer != 0);
+        meet(t->call == PART ? PART_EMPTY : SUPPORT_EMPTY, o->answer == 0);
+        return;
+    }
+    met[t->call][number]++;
+    if (t->call == CHECK) note_check(t, o->answer);
+    if (number != 0) return;
+    if (t->call == REACH) note_reach(o->answer);
+    if (t->call == PLAN) note_plan(t, o);
+    if (t->call == READ) note_read(t);
+    if (t->call == COPY_RINGS) meet(t->lent[RING_PLANES].len > 0 ? COPY_SOME : COPY_NONE, 1);
+    if (t->call == WRITE) note_write(t, o->answer);
+}
+
+static int can_be(enum call call, unsigned number)
+{
+    char word[16];
+    char all[64];
+    snprintf(word, sizeof word, " %u ", number);
+    snprintf(all, sizeof all, " %s", can_give[call]);
+    return strstr(all, word) != NULL;
+}
+
+static int print_numbers(FILE *to)
+{
+    int missing = 0;
+    for (int call = 0; call < CALLS; call++) {
+        if (call == PART || call == SUPPORT) continue;
+        fprintf(to, "met by %s:", call_names[call]);
+        for (unsigned number = 0; number < NUMBERS; number++) {
+            if (!can_be((enum call)call, number) && met[call][number] == 0) continue;
+            fprintf(to, " %s%u x %lu", number == 0 ? "accepted " : "", number, met[call][number]);
+            missing += met[call][number] == 0;
+        }
+        fprintf(to, "\n");
+    }
+    return missing;
+}
+
+static int print_kinds(FILE *to)
+{
+    int missing = 0;
+    for (int kind = 0; kind < KINDS; kind++) {
+        fprintf(to, "met %s: %lu\n", kind_names[kind], kinds[kind]);
+        missing += kinds[kind] == 0 && (kind != LONG_BUFFER || lend_long());
+    }
+    if (!lend_long()) fprintf(to, "buffers of 2^32 elements and more cannot be lent here\n");
+    return missing;
+}
+
+int print_met(FILE *to)
+{
+    int missing = print_numbers(to);
+    return missing + print_kinds(to);
+}
