@@ -1,6 +1,6 @@
-/* Makes the trial of a seed and a case number: a few of the largest size, then all very small stacks, then random ones, good and spoilt
- * in every way that has a refusal number. No expression throws the dice twice in an order that C leaves open, so a case is the same on
- * every machine.
+/* Makes the trial of a seed and a case number: a few of the largest size, then all very small stacks, then all sizes at the edges of
+ * words, then random ones, good and spoilt in every way that has a refusal number. No expression throws the dice twice in an order that C
+ * leaves open, so a case is the same on every machine.
  */
 #include "make.h"
 
@@ -232,6 +232,49 @@ static int small_check(struct trial *t, uint64_t *number)
     return 1;
 }
 
+/* ---- Sizes at the edges of words, part at the edges of the image ---- */
+
+/* Part that lies at an edge or a corner of the lower layer, or here and there, under a full layer. */
+static void draw_at_edge(struct dice *d, struct trial *t)
+{
+    uint8_t *part = t->lent[PART_STACK].bytes;
+    uint64_t shape = below(d, 6);
+    for (uint64_t row = 0; row < t->h; row++)
+        for (uint64_t column = 0; column < t->w; column++) {
+            int first = column == 0, last = column + 1 == t->w, top = row == 0, bottom = row + 1 == t->h;
+            int lower = shape == 0 ? first : shape == 1 ? last : shape == 2 ? first && top : shape == 3 ? last && bottom
+                        : shape == 4 ? top : (row * t->w + column) % 61 == 7;
+            set_pixel(part, t->w, t->h, 0, row, column, lower);
+            set_pixel(part, t->w, t->h, 1, row, column, 1);
+        }
+}
+
+/* The number-th of all pairs of such sizes, planned and then judged; the reach goes through 0 to 32, and to 5 where there are many pixels. */
+static int edge_case(struct dice *d, struct trial *t, uint64_t *number)
+{
+    static const unsigned edges[] = {1, 7, 8, 9, 63, 64, 65, 127, 128, 255, 256};
+    enum { EDGES = sizeof edges / sizeof *edges, ALL = 2 * EDGES * EDGES };
+    uint64_t k = *number;
+    if (k >= ALL) {
+        *number -= ALL;
+        return 0;
+    }
+    t->call = k < ALL / 2 ? PLAN : CHECK;
+    t->w = edges[k % EDGES];
+    t->h = edges[k / EDGES % EDGES];
+    t->n = 2;
+    pick_settings_of(d, t, (uint32_t)(below(d, 33) % (t->w * t->h > 20000 ? 6 : 33)));
+    buffer_make(t, PART_STACK, stack_bytes_of(t));
+    draw_at_edge(d, t);
+    if (t->call == CHECK) {
+        plan_by_peer(t);
+        return 1;
+    }
+    lend_scribbled(d, t, SUPPORT_STACK, stack_bytes_of(t));
+    lend_scribbled(d, t, RING_PLANES, ring_count_of(t));
+    return 1;
+}
+
 /* ---- A job of the largest size ---- */
 
 static void make_largest(struct dice *d, struct trial *t, uint64_t which)
@@ -298,6 +341,6 @@ void make_trial(struct trial *t, uint64_t seed, uint64_t number)
         return;
     }
     number -= LARGEST_CASES;
-    if (small_plan(t, &number) || small_check(t, &number)) return;
+    if (small_plan(t, &number) || small_check(t, &number) || edge_case(&d, t, &number)) return;
     make_random(&d, t);
 }
