@@ -5,8 +5,8 @@
  *
  * WHAT is plan or check (the library), peer-plan or peer-check (the peer), tuned-plan or tuned-check (the peer that is tuned further),
  * floor (what no planner can do without: zeroing the ring planes and copying the part), or compare (all three must agree on every byte).
- * A check judges what was planned before, by the tuned peer, which is not part of the TIMES. INPUT is empty, solid, sphere, lattice, noise
- * or spiral; R is the reach in pixels. With TIMES 0 only the input is made, so what a call costs by any measure is the difference.
+ * A check judges what was planned before, by the tuned peer, which is not part of the TIMES. INPUT is empty, solid, sphere, lattice, noise,
+ * spiral, meander, wide or maze; R is the reach in pixels. With TIMES 0 only the input is made, so what a call costs by any measure is the difference.
  *
  * clock lets floor, planners and checkers take turns, ROUNDS times, and prints a line for each: WHAT, then the milliseconds of each round
  * by the clock that counts the time that this thread had a processor. A round before these is not counted.

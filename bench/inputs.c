@@ -144,9 +144,60 @@ static void draw_spiral(struct size s, uint8_t *part)
     for (size_t z = 0; z < s.n; z++) memcpy(part + z * plane, z % 2 == 0 ? dots : path, plane);
 }
 
+/* ---- Meander, wide, maze ---- */
+
+/* Whether a path of that width, which goes to and fro with gaps as wide, has the pixel `across` and `along`, where a leg is `long` pixels. */
+static int on_path(size_t across, size_t along, size_t length, size_t wide)
+{
+    size_t leg = across / (2 * wide);
+    if (across % (2 * wide) < wide) return 1;
+    return leg % 2 == 0 ? along + wide >= length : along < wide;
+}
+
+/* Every odd layer is such a path, along rows and along columns in turn. Every even one has its first pixel, which is the only seed, and
+ * dots beside the path, so that all of it is near. */
+static void draw_to_and_fro(struct size s, uint8_t *part, size_t wide)
+{
+    size_t plane = s.h * row_bytes(s);
+    for (size_t z = 0; z + 1 < s.n; z += 2) {
+        uint8_t *dots = part + z * plane, *path = dots + plane;
+        for (size_t y = 0; y < s.h; y++)
+            for (size_t x = 0; x < s.w; x++)
+                if (z / 2 % 2 == 0 ? on_path(y, x, s.w, wide) : on_path(x, y, s.h, wide)) fill(path + y * row_bytes(s), x);
+        fill(dots, 0);
+        for (size_t y = 8; y < s.h; y += 20)
+            for (size_t x = 8; x < s.w; x += 20) draw_dot(s, path, dots, y, x);
+    }
+}
+
+static void draw_meander(struct size s, uint8_t *part) { draw_to_and_fro(s, part, 1); }
+
+static void draw_wide(struct size s, uint8_t *part) { draw_to_and_fro(s, part, 5); }
+
+/* Every odd layer is noise with 45 of 100 pixels; every even one has dots beside them and one seed in the middle: paths with many loops. */
+static void draw_maze(struct size s, uint8_t *part)
+{
+    uint64_t state = 0x9e3779b97f4a7c15u;
+    for (size_t z = 0; z + 1 < s.n; z += 2) {
+        uint8_t *dots = row_of(s, part, z, 0), *maze = row_of(s, part, z + 1, 0);
+        for (size_t y = 0; y < s.h; y++)
+            for (size_t x = 0; x < s.w; x++) {
+                state ^= state << 13;
+                state ^= state >> 7;
+                state ^= state << 17;
+                if ((state >> 32) % 100 < 45) fill(maze + y * row_bytes(s), x);
+            }
+        for (size_t y = 8; y < s.h; y += 20)
+            for (size_t x = 8; x < s.w; x += 20) draw_dot(s, maze, dots, y, x);
+        fill(dots + s.h / 2 * row_bytes(s), s.w / 2);
+        fill(maze + s.h / 2 * row_bytes(s), s.w / 2);
+    }
+}
+
 static const struct input inputs[] = {
     {"empty", draw_empty}, {"solid", draw_solid}, {"sphere", draw_sphere},
     {"lattice", draw_lattice}, {"noise", draw_noise}, {"spiral", draw_spiral},
+    {"meander", draw_meander}, {"wide", draw_wide}, {"maze", draw_maze},
 };
 
 const struct input *find_input(const char *name)
