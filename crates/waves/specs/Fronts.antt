@@ -28,15 +28,16 @@ pub record Waved (w h k : ℕ) (over seed : Plane) (front left got ring : List �
   pub lefts : (p : ℕ) → p < h * w → seen w left p ≡ (over p && eqb (getD ring p 0) 0)
   pub gots : (p : ℕ) → p < h * w → seen w got p ≡ ltb 0 (getD ring p 0)
 
--- waves over a plane that have come to their end: no wave goes on
-pub record Ended (w h : ℕ) (over seed : Plane) (left got ring : List ℕ) : Type 0 where
+-- waves over a plane that have come to their end, with at most t of them: no wave goes on
+pub record Ended (w h t : ℕ) (over seed : Plane) (left got ring : List ℕ) : Type 0 where
   pub number : ℕ
   pub front : List ℕ
   pub some-wave : 0 < number
+  pub most : number ≤ t
   pub waved : Waved w h number over seed front left got ring
   pub still : Still front left
 
 -- waves were made, up to t of them: r, or with r = 0 until none went on
 abbrev pub Rolled : ℕ → ℕ → ℕ → ℕ → ℕ → List ℕ → List ℕ → List ℕ → List ℕ → List ℕ → List ℕ → List ℕ → List ℕ → Type 0
 Rolled w h k t r front front' left left' got got' ring ring' = (over seed : Plane) → Waved w h k over seed front left got ring
-    → (0 < r → (r ≤ t) × Waved w h r over seed front' left' got' ring') × (r ≡ 0 → Ended w h over seed left' got' ring')
+    → (0 < r → Waved w h r over seed front' left' got' ring') × (r ≡ 0 → Ended w h t over seed left' got' ring')

@@ -86,6 +86,7 @@ pub fn waves(
     ensures { λ _. ⌜ Afloat w h (now (ahead .entry)) (now (front .exit)) (now (left .exit)) (now (got .exit)) (now (ring .exit)) ⌝ }
     ensures { λ _. ⌜ Room w h (now (ahead .entry)) (now (front .exit)) × Room w h (now (ahead .entry)) (now (next .exit)) ⌝ }
     ensures { λ r. ⌜ Rolled w h k t r (now (front .entry)) (now (front .exit)) (now (left .entry)) (now (left .exit)) (now (got .entry)) (now (got .exit)) (now (ring .entry)) (now (ring .exit)) ⌝ }
+    ensures { λ r. ⌜ r ≤ t ⌝ }
 {
     let mut n = k;
     while n + 1 < t {

@@ -56,15 +56,19 @@ returns c =
       afloat-old _ _ _ _ _ _ _ _ _ _ _ _ A S (c .before .before .before .before .before .before .before .before .before .wave .kept .1 .1 .1 .0) (c .before .before .before .before .before .before .before .before .before .wave .kept .1 .1 .1 .1 .0) (c .before .before .before .before .before .before .before .before .before .wave .kept .0) (B .front-ready .long),
       (
         (c .before .before .before .before .before .before .before .before .before .before .before .before .before .before .before .before .loop .inv .3, c .before .before .before .before .before .before .before .before .before .wave .ensures .1 .0),
-        λ o s W. (
-          λ p. absurd (omega arith),
-          λ e. record {
-            number = c .before .before .before .before .before .before .before .before .before .before .before .before .before .before .before .before .loop .n + 1;
-            front = _;
-            some-wave = omega arith;
-            waved = waved-on _ _ (c .before .before .before .before .before .before .before .before .before .before .before .before .before .before .before .before .loop .n) _ _ _ _ _ _ _ _ _ _ _ refl refl A S B o s (c .before .before .before .before .before .before .before .before .before .before .before .before .before .before .before .before .loop .inv .5 o s W);
-            still = c .before .before .before .before .before .before .before .before .before .wave .ensures .1 .1 .1 (c .if1 .taken);
-          },
+        (
+          λ o s W. (
+            λ p. absurd (omega arith),
+            λ e. record {
+              number = c .before .before .before .before .before .before .before .before .before .before .before .before .before .before .before .before .loop .n + 1;
+              front = _;
+              some-wave = omega arith;
+              most = omega (arith, c .before .before .before .before .before .before .before .before .before .before .before .before .before .before .before .loop-test .taken);
+              waved = waved-on _ _ (c .before .before .before .before .before .before .before .before .before .before .before .before .before .before .before .before .loop .n) _ _ _ _ _ _ _ _ _ _ _ refl refl A S B o s (c .before .before .before .before .before .before .before .before .before .before .before .before .before .before .before .before .loop .inv .5 o s W);
+              still = c .before .before .before .before .before .before .before .before .before .wave .ensures .1 .1 .1 (c .if1 .taken);
+            },
+          ),
+          omega arith,
         ),
       ),
     )
@@ -107,7 +111,7 @@ returns-2 c =
       afloat-same _ _ _ _ _ _ _ _ (c .before .before .copy .kept .1 .0 ∙ A .front-ready .long) q B,
       (
         (room-same _ _ _ _ _ (c .before .before .copy .kept .1 .0 ∙ A .front-ready .long) (c .before .before .before .before .before .before .before .before .before .before .before .before .before .before .before .wave .ensures .1 .0) q, c .before .before .before .before .before .before .before .before .before .before .before .before .before .before .before .wave .ensures .1 .0),
-        λ o s W. (λ p. (omega arith, waved-same _ _ _ (A .sizes) o s _ _ _ _ _ q (waved-on _ _ (c .before .before .before .before .before .before .before .before .before .before .before .before .before .before .before .before .before .before .before .before .before .before .loop .n) _ _ _ _ _ _ _ _ _ _ _ refl refl A S B o s (c .before .before .before .before .before .before .before .before .before .before .before .before .before .before .before .before .before .before .before .before .before .before .loop .inv .5 o s W))), λ e. absurd (omega arith)),
+        (λ o s W. (λ p. waved-same _ _ _ (A .sizes) o s _ _ _ _ _ q (waved-on _ _ (c .before .before .before .before .before .before .before .before .before .before .before .before .before .before .before .before .before .before .before .before .before .before .loop .n) _ _ _ _ _ _ _ _ _ _ _ refl refl A S B o s (c .before .before .before .before .before .before .before .before .before .before .before .before .before .before .before .before .before .before .before .before .before .before .loop .inv .5 o s W)), λ e. absurd (omega arith)), omega (arith, c .before .before .before .before .before .before .before .before .before .before .before .before .before .before .before .before .before .before .before .before .before .loop-test .taken)),
       ),
     )
 
@@ -150,15 +154,19 @@ returns-3 c =
       D,
       (
         (c .before .before .before .before .before .before .before .before .before .wave2 .ensures .1 .0, c .before .before .before .before .before .before .before .before .before .before .before .before .before .before .before .before .before .before .before .before .before .before .before .before .before .wave .ensures .1 .0),
-        λ o s W. (
-          λ p. absurd (omega arith),
-          λ e. record {
-            number = c .before .before .before .before .before .before .before .before .before .before .before .before .before .before .before .before .before .before .before .before .before .before .before .before .before .before .before .before .before .before .before .before .loop .n + 2;
-            front = _;
-            some-wave = omega arith;
-            waved = waved-on _ _ (c .before .before .before .before .before .before .before .before .before .before .before .before .before .before .before .before .before .before .before .before .before .before .before .before .before .before .before .before .before .before .before .before .loop .n + 1) _ _ _ _ _ _ _ _ _ _ _ (omega arith) (omega arith) B T D o s (waved-on _ _ (c .before .before .before .before .before .before .before .before .before .before .before .before .before .before .before .before .before .before .before .before .before .before .before .before .before .before .before .before .before .before .before .before .loop .n) _ _ _ _ _ _ _ _ _ _ _ refl refl A S B o s (c .before .before .before .before .before .before .before .before .before .before .before .before .before .before .before .before .before .before .before .before .before .before .before .before .before .before .before .before .before .before .before .before .loop .inv .5 o s W));
-            still = c .before .before .before .before .before .before .before .before .before .wave2 .ensures .1 .1 .1 (c .if3 .taken);
-          },
+        (
+          λ o s W. (
+            λ p. absurd (omega arith),
+            λ e. record {
+              number = c .before .before .before .before .before .before .before .before .before .before .before .before .before .before .before .before .before .before .before .before .before .before .before .before .before .before .before .before .before .before .before .before .loop .n + 2;
+              front = _;
+              some-wave = omega arith;
+              most = omega (arith, c .before .before .before .before .before .before .before .before .before .before .before .before .before .before .before .before .before .before .before .before .before .before .before .before .before .before .before .before .before .before .before .loop-test .taken);
+              waved = waved-on _ _ (c .before .before .before .before .before .before .before .before .before .before .before .before .before .before .before .before .before .before .before .before .before .before .before .before .before .before .before .before .before .before .before .before .loop .n + 1) _ _ _ _ _ _ _ _ _ _ _ (omega arith) (omega arith) B T D o s (waved-on _ _ (c .before .before .before .before .before .before .before .before .before .before .before .before .before .before .before .before .before .before .before .before .before .before .before .before .before .before .before .before .before .before .before .before .loop .n) _ _ _ _ _ _ _ _ _ _ _ refl refl A S B o s (c .before .before .before .before .before .before .before .before .before .before .before .before .before .before .before .before .before .before .before .before .before .before .before .before .before .before .before .before .before .before .before .before .loop .inv .5 o s W));
+              still = c .before .before .before .before .before .before .before .before .before .wave2 .ensures .1 .1 .1 (c .if3 .taken);
+            },
+          ),
+          omega arith,
         ),
       ),
     )
@@ -193,7 +201,7 @@ returns-4 c =
     let A = c .before .before .before .before .before .before .before .before .before .before .before .before .before .before .before .before .before .before .before .before .before .before .before .before .before .before .before .before .before .before .before .before .before .loop .inv .2 in
     let B = c .before .before .before .before .before .before .before .before .before .before .before .before .before .before .before .before .before .before .before .before .before .before .before .before .before .before .wave .ensures .0 in
     let D = c .before .before .before .before .before .before .before .before .before .before .wave2 .ensures .0 in
-    (D, ((c .before .before .before .before .before .before .before .before .before .before .wave2 .ensures .1 .0, c .before .before .before .before .before .before .before .before .before .before .before .before .before .before .before .before .before .before .before .before .before .before .before .before .before .before .wave .ensures .1 .0), λ o s W. (λ p. (omega (arith, c .before .before .before .before .before .before .before .before .before .before .before .before .before .before .before .before .before .before .before .before .before .before .before .before .before .before .before .before .before .before .before .before .loop-test .taken), waved-on _ _ (c .before .before .before .before .before .before .before .before .before .before .before .before .before .before .before .before .before .before .before .before .before .before .before .before .before .before .before .before .before .before .before .before .before .loop .n + 1) _ _ _ _ _ _ _ _ _ _ _ (omega arith) (omega arith) B (c .before .before .before .before .before .before .before .before .before .before .wave2 .ensures .1 .1 .0) D o s (waved-on _ _ (c .before .before .before .before .before .before .before .before .before .before .before .before .before .before .before .before .before .before .before .before .before .before .before .before .before .before .before .before .before .before .before .before .before .loop .n) _ _ _ _ _ _ _ _ _ _ _ refl refl A (c .before .before .before .before .before .before .before .before .before .before .before .before .before .before .before .before .before .before .before .before .before .before .before .before .before .before .wave .ensures .1 .1 .0) B o s (c .before .before .before .before .before .before .before .before .before .before .before .before .before .before .before .before .before .before .before .before .before .before .before .before .before .before .before .before .before .before .before .before .before .loop .inv .5 o s W))), λ e. absurd (omega arith))))
+    (D, ((c .before .before .before .before .before .before .before .before .before .before .wave2 .ensures .1 .0, c .before .before .before .before .before .before .before .before .before .before .before .before .before .before .before .before .before .before .before .before .before .before .before .before .before .before .wave .ensures .1 .0), (λ o s W. (λ p. waved-on _ _ (c .before .before .before .before .before .before .before .before .before .before .before .before .before .before .before .before .before .before .before .before .before .before .before .before .before .before .before .before .before .before .before .before .before .loop .n + 1) _ _ _ _ _ _ _ _ _ _ _ (omega arith) (omega arith) B (c .before .before .before .before .before .before .before .before .before .before .wave2 .ensures .1 .1 .0) D o s (waved-on _ _ (c .before .before .before .before .before .before .before .before .before .before .before .before .before .before .before .before .before .before .before .before .before .before .before .before .before .before .before .before .before .before .before .before .before .loop .n) _ _ _ _ _ _ _ _ _ _ _ refl refl A (c .before .before .before .before .before .before .before .before .before .before .before .before .before .before .before .before .before .before .before .before .before .before .before .before .before .before .wave .ensures .1 .1 .0) B o s (c .before .before .before .before .before .before .before .before .before .before .before .before .before .before .before .before .before .before .before .before .before .before .before .before .before .before .before .before .before .before .before .before .before .loop .inv .5 o s W)), λ e. absurd (omega arith)), omega (arith, c .before .before .before .before .before .before .before .before .before .before .before .before .before .before .before .before .before .before .before .before .before .before .before .before .before .before .before .before .before .before .before .before .loop-test .taken))))
 
 -- src/waves.rt:91:5
 loop-less : tie.Need-loop-less Inv-loop μ-loop
@@ -229,7 +237,7 @@ same-length-25 c = c .before .loop .inv .2 .got-room .ready .long ∙ sym (c .be
 
 -- src/waves.rt:70:1
 returns-5 : tie.Need-returns-5 Inv-loop μ-loop
-returns-5 c = (c .before .loop .inv .2, ((c .before .loop .inv .3, c .before .loop .inv .4), λ o s W. (λ p. (c .before .loop .inv .1, c .before .loop .inv .5 o s W), λ e. absurd (omega (arith, c .before .loop .inv .0)))))
+returns-5 c = (c .before .loop .inv .2, ((c .before .loop .inv .3, c .before .loop .inv .4), (λ o s W. (λ p. c .before .loop .inv .5 o s W, λ e. absurd (omega (arith, c .before .loop .inv .0))), c .before .loop .inv .1)))
 
 pub waves-spec : {M : Type 1} → statement M
 waves-spec =
