@@ -9,14 +9,61 @@ use native.Mathlib.Decide.{decLt, ℕ-discrete}
 use borrow.Author.Tests.{eq-eqb, ne-eqb}
 use lib.Arith.{digits-div, digits-mod}
 use lib.Bits.{bitAnd, and-le-r, and-block, and-self, and-mask}
-use lib.Count.{trailingZeros, under}
+use lib.Count.{leadingZeros, leading-top, trailingZeros, under}
 use lib.Dec.{eqb}
 use lib.ListN.{length, getD, set, length-set}
-use lib.Pow.{pow-pos, pow-lt}
+use lib.Pow.{shl-exact, shl-shr, pow-add, pow-pos, pow-lt}
 use lib.Seq.{getD-set-same, getD-set-other}
 use Rattle.laws.specs.Tests.{and-l, and-true}
-use Rattle.words.specs.Words.{place, bitOfWord, lastBit, Numbered}
-use Rattle.words.specs.Digits.{place-shr, place-mod-below, place-zero}
+use Rattle.words.specs.Words.{place, bitOfWord, Digits, lastBit, Numbered}
+use Rattle.words.specs.Digits.{place-shr, place-mod-below, place-small, place-zero}
+
+one-place-low : (d e : ℕ) → place (2 ^ (suc d + e)) e ≡ false
+unfolding place
+one-place-low d e =
+    let p : 2 ^ suc d % 2 ≡ 0 = rw (pow-suc 2 d) (omega arith) in
+    rw (pow-add 2 (suc d) e, shl-shr (2 ^ suc d) e, p)
+
+one-place-here : (x e : ℕ) → 2 ^ e ≤ x → x < 2 ^ suc e → place x e ≡ true
+unfolding place
+one-place-here x e lo hi =
+    let p : 2 ^ suc e ≡ 2 ^ e * 2 = pow-suc 2 e in
+    let z : x ≡ 1 * 2 ^ e + (x - 2 ^ e) = omega arith in
+    let q : x / 2 ^ e ≡ 1 = ap (λ (n : ℕ). n / 2 ^ e) z ∙ digits-div 1 {m = 2 ^ e} {r = x - 2 ^ e} (omega arith) in
+    rw q
+
+-- the number with digit j alone
+one-place : (j e : ℕ) → place (2 ^ j) e ≡ eqb e j
+one-place j e = elim (ℕ-discrete e j) [
+  | yes q ↦ rw (q, eq-eqb j j refl) (one-place-here (2 ^ j) j (omega arith) (pow-lt (omega arith)))
+  | no q ↦ ne-eqb′ e j q (elim (decLt e j) [
+    | yes l ↦ let z : suc (j - suc e) + e ≡ j = omega arith in rw z at (one-place-low (j - suc e) e)
+    | no l ↦ place-small (2 ^ j) e (pow-lt (omega arith))
+  ])
+]
+  where
+    ne-eqb′ : {b : Bool} (e j : ℕ) → (e ≡ j → ⊥) → b ≡ false → b ≡ eqb e j
+    ne-eqb′ e j q z = z ∙ sym (ne-eqb e j q)
+
+-- the word with bit k alone
+pub one-bit : (k : ℕ) → k < 64 → (a : ℕ) → Digits 64 (1 * 2 ^ (63 - k) % 2 ^ 64) a (λ j. eqb j (a + k))
+one-bit k lk a =
+    let e : 1 * 2 ^ (63 - k) % 2 ^ 64 ≡ 2 ^ (63 - k) = shl-exact {a = 1} 1 (63 - k) 64 (omega arith) (omega arith) ∙ one-mul (2 ^ (63 - k)) in
+    rw e record { small = pow-lt {i = 63 - k} {j = 64} (omega arith); bits = λ d i z. one-place (63 - k) d ∙ same d i z }
+  where
+    same : (d i : ℕ) → d + suc i ≡ 64 → eqb d (63 - k) ≡ eqb (a + i) (a + k)
+    same d i z = elim (ℕ-discrete i k) [
+      | yes q ↦ eq-eqb d (63 - k) (omega arith) ∙ sym (eq-eqb (a + i) (a + k) (omega arith))
+      | no q ↦ ne-eqb d (63 - k) (λ y. q (omega arith)) ∙ sym (ne-eqb (a + i) (a + k) (λ y. q (omega arith)))
+    ]
+
+pub first-bit : (x : ℕ) → 0 < x → x < 2 ^ 64 → (leadingZeros 64 x < 64) × (bitOfWord x (leadingZeros 64 x) ≡ true)
+unfolding bitOfWord
+first-bit x pos small =
+    let t = leading-top 64 x pos small in
+    let e : leadingZeros 64 x + suc (t .0) ≡ 64 = t .1 in
+    let j : 63 - leadingZeros 64 x ≡ t .0 = omega arith in
+    (omega arith, rw j (one-place-here x (t .0) (t .2) (t .3)))
 
 mirror : (i k : ℕ) → i < 64 → k < 64 → eqb (63 - i) (63 - k) ≡ eqb i k
 mirror i k li lk = elim (ℕ-discrete i k) [

@@ -135,7 +135,7 @@ pub fn any(x: Row) -> bool
 }
 
 // The word m between l and n: each bit, and those s columns beside it.
-fn spread(l: u64, m: u64, n: u64, s: usize) -> u64
+pub fn spread(l: u64, m: u64, n: u64, s: usize) -> u64
     requires { ⌜ (0 < s) × (s < 64) ⌝ }
     ensures { λ r. ⌜ ((a : ℕ) → (f : ℕ → Bool) → Digits 64 l a f → Digits 64 m (a + 64) f → Digits 64 n (a + 128) f → Digits 64 r (a + 64) (beside s f)) ⌝ }
 {

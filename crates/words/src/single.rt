@@ -4,7 +4,23 @@ ghost use mathlib.Core.Bool.{true, false, not, _&&_};
 ghost use Prim.Native.Nat.{ℕ, _+_, _<_};
 ghost use lib.ListN.{length};
 ghost use lib.Dec.{eqb};
-ghost use Rattle.words.specs.Words.{bitOfWord, lastBit, Numbered};
+ghost use Rattle.words.specs.Words.{Digits, bitOfWord, lastBit, Numbered};
+
+// The word with bit k alone.
+pub fn bit(k: usize) -> u64
+    requires { ⌜ k < 64 ⌝ }
+    ensures { λ r. ⌜ ((a : ℕ) → Digits 64 r a (λ j. eqb j (a + k))) ⌝ }
+{
+    1u64 << (63 - k)
+}
+
+// The first bit that is set.
+pub fn first(x: u64) -> usize
+    requires { ⌜ 0 < x ⌝ }
+    ensures { λ r. ⌜ (r < 64) × (bitOfWord x r ≡ true) ⌝ }
+{
+    u64::leading_zeros(x) as usize
+}
 
 // The last bit that is set, and the word without it: the cheapest way through all bits of a word.
 fn last(x: u64) -> usize

@@ -1,0 +1,79 @@
+// A plane read from packed bytes, the far pixels of what is left, and those that touch the front.
+use rules::Bound;
+ghost use mathlib.Core.Path.{_≡_};
+ghost use mathlib.Core.Bool.{false};
+ghost use Prim.Native.Nat.{ℕ, _+_, _*_, _<_, _≤_};
+ghost use lib.ListN.{length};
+ghost use Rattle.rules.specs.Images.{rowBytes};
+ghost use Rattle.image.specs.Rows.{packed, Clean};
+ghost use Rattle.words.specs.Words.{wordBit};
+ghost use Rattle.planes.specs.Scratch.{Sizes, Framed, Ready, Drawn, fresh};
+ghost use Rattle.waves.specs.Rows.{Aheads, Room, RowBits};
+ghost use Rattle.rings.specs.Landing.{nearBits};
+
+// A packed plane into scratch; n is the number of bytes of a row.
+pub fn read_plane(s: &[u8], out: &mut [u64], w: usize, h: usize, n: usize)
+    requires { ⌜ Sizes w h × (n ≡ rowBytes w) × Clean w h (now s) × Ready w h (now out) ⌝ }
+    ensures { λ _. ⌜ Drawn w h (packed w (now (s .entry))) (now (out .exit)) ⌝ }
+{
+    let mut y = 0;
+    while y < h {
+        planes::rows::put(out, y + 33, words::rows::read(s, y * n, n));
+        y += 1;
+    }
+}
+
+// Drops the pixels of row y that are not near.
+fn drop_row(low: &[u64], left: &mut [u64], y: usize, q: Bound)
+    requires { ⌜ (length (now low) ≡ 1610) × (length (now left) ≡ 1610) × (y < 256) × (q .0 ≤ 1024) ⌝ }
+    ensures { λ _. ⌜ ((w h : ℕ) → Sizes w h → Framed w h (now (low .entry)) → Framed w h (now (left .entry)) → y < h → RowBits (y + 33) (nearBits w h (q .0) (now (low .entry)) (now (left .entry))) (now (left .entry)) (now (left .exit))) ⌝ }
+{
+    let own = planes::rows::row(left, y + 33);
+    if !words::rows::any(own) {
+        return;
+    }
+    let close = planes::nearness::near_row(low, y, q);
+    planes::rows::put(left, y + 33, words::rows::both(own, close));
+}
+
+// Drops the pixels that are not near to low, in the rows that `ahead` leads to.
+pub fn drop_far(low: &[u64], left: &mut [u64], ahead: &[usize], w: usize, h: usize, q: Bound)
+    requires { ⌜ Sizes w h × Aheads h (now ahead) × Ready w h (now low) × Room w h (now ahead) (now left) × (q .0 ≤ 1024) ⌝ }
+    ensures { λ _. ⌜ ((j : ℕ) → wordBit (now (left .exit)) j ≡ nearBits w h (q .0) (now (low .entry)) (now (left .entry)) j) ⌝ }
+{
+    let mut y = ahead[0];
+    while y < h {
+        drop_row(low, left, y, q);
+        y = ahead[y + 1];
+    }
+}
+
+fn either(a: bool, b: bool) -> bool
+    ensures { λ r. ⌜ (r ≡ false → (a ≡ false) × (b ≡ false)) ⌝ }
+{
+    if a { true } else { b }
+}
+
+// Marks the pixels that are left and touch the front; false where there are none.
+pub fn mark(
+    front: &[u64],
+    left: &[u64],
+    marks: &mut [u64],
+    ahead: &[usize],
+    w: usize,
+    h: usize,
+) -> bool
+    requires { ⌜ Sizes w h × Aheads h (now ahead) × Ready w h (now front) × Room w h (now ahead) (now left) × Room w h (now ahead) (now marks) ⌝ }
+    ensures { λ _. ⌜ ((j : ℕ) → wordBit (now (marks .exit)) j ≡ fresh (now (front .entry)) (now (left .entry)) j) ⌝ }
+    ensures { λ d. ⌜ (d ≡ false → (j : ℕ) → fresh (now (front .entry)) (now (left .entry)) j ≡ false) ⌝ }
+{
+    let mut some = false;
+    let mut y = ahead[0];
+    while y < h {
+        let now = planes::rows::fresh_row(front, left, y + 33);
+        planes::rows::put(marks, y + 33, now);
+        some = either(some, words::rows::any(now));
+        y = ahead[y + 1];
+    }
+    some
+}

@@ -1,0 +1,182 @@
+// Rings of one pair of layers: over the near shadow pixels, from the seeds.
+pub mod far;
+
+use rules::Bound;
+ghost use mathlib.Core.Path.{_≡_};
+ghost use mathlib.Core.Bool.{Bool, true, false};
+ghost use Prim.Native.Nat.{ℕ, _+_, _*_, _<_, _≤_};
+ghost use lib.ListN.{length, getD};
+ghost use Rattle.rules.specs.Images.{rowBytes};
+ghost use Rattle.image.specs.Rows.{packed, Clean};
+ghost use Rattle.words.specs.Words.{wordBit};
+ghost use Rattle.planes.specs.Scratch.{seen};
+ghost use Rattle.waves.specs.Fronts.{Afloat, Waved};
+ghost use Rattle.waves.specs.Rows.{Room};
+ghost use Rattle.rings.specs.Landing.{Apart, Landed, NearBy, Rooms, Whole, nearIn};
+
+// Goes on by relaxation where the last wave stood, over what is left.
+fn finish(
+    ring: &mut [u16],
+    front: &[u64],
+    marks: &mut [u64],
+    left: &[u64],
+    got: &mut [u64],
+    ahead: &[usize],
+    w: usize,
+    h: usize,
+)
+    requires { ⌜ Afloat w h (now ahead) (now front) (now left) (now got) (now ring) ⌝ }
+    requires { ⌜ Room w h (now ahead) (now marks) ⌝ }
+    ensures { λ _. ⌜ Room w h (now (ahead .entry)) (now (marks .exit)) × Room w h (now (ahead .entry)) (now (got .exit)) ⌝ }
+    ensures { λ _. ⌜ ((k : ℕ) → (over seed : ℕ → Bool) → 0 < k → Apart w h over seed → Waved w h k over seed (now (front .entry)) (now (left .entry)) (now (got .entry)) (now (ring .entry)) → Whole w h over seed (now (got .exit)) (now (ring .exit))) ⌝ }
+{
+    if !crate::far::mark(front, left, marks, ahead, w, h) {
+        return;
+    }
+    sweeps::sweeps::settle(ring, marks, got, left, w, h);
+}
+
+// Drops what is far, and goes on after k waves: by waves while each has new pixels in 16 rows or more, and then by relaxation.
+fn onward(
+    low: &[u8],
+    ring: &mut [u16],
+    front: &mut [u64],
+    next: &mut [u64],
+    left: &mut [u64],
+    got: &mut [u64],
+    lower: &mut [u64],
+    ahead: &[usize],
+    w: usize,
+    h: usize,
+    n: usize,
+    q: Bound,
+    k: usize,
+)
+    requires { ⌜ Afloat w h (now ahead) (now front) (now left) (now got) (now ring) ⌝ }
+    requires { ⌜ Rooms w h (now ahead) (now left) (now got) (now front) (now next) (now lower) ⌝ }
+    requires { ⌜ (n ≡ rowBytes w) × Clean w h (now low) × (q .0 ≤ 1024) × (0 < k) × (k < 65536) ⌝ }
+    ensures { λ _. ⌜ Rooms w h (now (ahead .entry)) (now (left .exit)) (now (got .exit)) (now (front .exit)) (now (next .exit)) (now (lower .exit)) ⌝ }
+    ensures { λ _. ⌜ ((over seed : ℕ → Bool) → Landed w h (q .0) k (packed w (now (low .entry))) over seed (now (front .entry)) (now (left .entry)) (now (got .entry)) (now (ring .entry))
+        → Whole w h (nearIn w h (q .0) (packed w (now (low .entry))) over) seed (now (got .exit)) (now (ring .exit))) ⌝ }
+{
+    crate::far::read_plane(low, lower, w, h, n);
+    crate::far::drop_far(lower, left, ahead, w, h, q);
+    let r = waves::waves::waves(ring, front, next, left, got, ahead, w, h, k, 65535, 16);
+    if r == 0 {
+        return;
+    }
+    finish(ring, front, next, left, got, ahead, w, h);
+}
+
+// The rings over the near pixels of what is left, where what at most t waves over it reach is near.
+fn over(
+    low: &[u8],
+    ring: &mut [u16],
+    seed: &[u64],
+    front: &mut [u64],
+    next: &mut [u64],
+    left: &mut [u64],
+    got: &mut [u64],
+    lower: &mut [u64],
+    ahead: &[usize],
+    w: usize,
+    h: usize,
+    n: usize,
+    q: Bound,
+    t: usize,
+)
+    requires { ⌜ Afloat w h (now ahead) (now seed) (now left) (now got) (now ring) ⌝ }
+    requires { ⌜ Rooms w h (now ahead) (now left) (now got) (now front) (now next) (now lower) ⌝ }
+    requires { ⌜ (n ≡ rowBytes w) × Clean w h (now low) × (q .0 ≤ 1024) × (0 < t) × (t ≤ 32) ⌝ }
+    ensures { λ _. ⌜ Rooms w h (now (ahead .entry)) (now (left .exit)) (now (got .exit)) (now (front .exit)) (now (next .exit)) (now (lower .exit)) ⌝ }
+    ensures { λ _. ⌜ ((shadow seeds : ℕ → Bool) → Waved w h 0 shadow seeds (now (seed .entry)) (now (left .entry)) (now (got .entry)) (now (ring .entry)) → Apart w h shadow seeds
+        → NearBy w h (q .0) t (packed w (now (low .entry))) shadow seeds → Whole w h (nearIn w h (q .0) (packed w (now (low .entry))) shadow) seeds (now (got .exit)) (now (ring .exit))) ⌝ }
+{
+    let a = waves::waves::wave(ring, seed, front, left, got, ahead, w, h, 1);
+    if a == 0 {
+        return;
+    }
+    let k = waves::waves::waves(ring, front, next, left, got, ahead, w, h, 1, t, 1);
+    if k == 0 {
+        return;
+    }
+    onward(
+        low,
+        ring,
+        front,
+        next,
+        left,
+        got,
+        lower,
+        ahead,
+        w,
+        h,
+        n,
+        q,
+        k,
+    );
+}
+
+// The rings of a pair by its shadow, which is what is left, and its seeds, which are part below; got has the pixels with a ring. Where
+// no ring is near by itself, the near shadow pixels are found first.
+pub fn rings(
+    low: &[u8],
+    ring: &mut [u16],
+    seed: &[u64],
+    front: &mut [u64],
+    next: &mut [u64],
+    left: &mut [u64],
+    got: &mut [u64],
+    lower: &mut [u64],
+    ahead: &[usize],
+    w: usize,
+    h: usize,
+    n: usize,
+    q: Bound,
+)
+    requires { ⌜ Afloat w h (now ahead) (now seed) (now left) (now got) (now ring) ⌝ }
+    requires { ⌜ Rooms w h (now ahead) (now left) (now got) (now front) (now next) (now lower) ⌝ }
+    requires { ⌜ (n ≡ rowBytes w) × Clean w h (now low) × (q .0 ≤ 1024) ⌝ }
+    ensures { λ _. ⌜ Rooms w h (now (ahead .entry)) (now (left .exit)) (now (got .exit)) (now (front .exit)) (now (next .exit)) (now (lower .exit)) ⌝ }
+    ensures { λ _. ⌜ ((shadow seeds : ℕ → Bool) → Waved w h 0 shadow seeds (now (seed .entry)) (now (left .entry)) (now (got .entry)) (now (ring .entry)) → Apart w h shadow seeds
+        → ((p : ℕ) → p < h * w → seeds p ≡ true → packed w (now (low .entry)) p ≡ true) → Whole w h (nearIn w h (q .0) (packed w (now (low .entry))) shadow) seeds (now (got .exit)) (now (ring .exit))) ⌝ }
+{
+    if q.0 < 2 {
+        crate::far::read_plane(low, lower, w, h, n);
+        crate::far::drop_far(lower, left, ahead, w, h, q);
+        over(
+            low,
+            ring,
+            seed,
+            front,
+            next,
+            left,
+            got,
+            lower,
+            ahead,
+            w,
+            h,
+            n,
+            q,
+            1,
+        );
+        return;
+    }
+    let t = roots::root(q.0 / 2);
+    over(
+        low,
+        ring,
+        seed,
+        front,
+        next,
+        left,
+        got,
+        lower,
+        ahead,
+        w,
+        h,
+        n,
+        q,
+        t,
+    );
+}

@@ -1,0 +1,38 @@
+use mathlib.Core.Path.{subst}
+use Prim.Native.Nat.{ℕ, _-_, _+_, min}
+use native.Mathlib.Omega.{arith}
+use borrow.Author.Needs.{needs}
+use Rattle.planes.specs.PlaneLaws.{row-fits}
+use Rattle.sweeps.specs.LeastLaws.{least-block}
+use Rattle.sweeps.specs.Marks.{levelAt, Least, Beside}
+use Rattle.sweeps.proofs.levels.around.Statement.{statement}
+use Rattle.sweeps.proofs.levels.around.Tie as tie
+
+three-requires : tie.Need-three-requires
+three-requires c κs = let b = c .before .before .before in omega (arith, b .pre, c .before .row-up .ensures, row-fits (b .args .r - 1) (b .args .h) (b .args .w) (omega arith))
+
+three-requires-2 : tie.Need-three-requires-2
+three-requires-2 c κs = let b = c .before .before .before .before in omega (arith, b .pre, row-fits (b .args .r) (b .args .h) (b .args .w) (omega arith))
+
+three-requires-3 : tie.Need-three-requires-3
+three-requires-3 c κs = let b = c .before .before .before .before .before in omega (arith, b .pre, c .before .before .row-down .ensures, row-fits (min (b .args .r + 1) (b .args .h - 1)) (b .args .h) (b .args .w) (omega arith))
+
+returns : tie.Need-returns
+returns c =
+    let b = c .before .before .before .before .before .before .before .before in
+    let a = b .args in
+    let g = levelAt (a .plane .now) in (
+      least-block g (a .w) (a .h) (a .r) (a .c) (a .base) (c .min22 .result)
+          (c .before .before .before .before .three .result) (c .before .before .before .three2 .result) (c .before .before .three3 .result)
+          (b .pre .0) (b .pre .1) (b .pre .4) (cc)
+          (subst (λ (u : ℕ). Least (Beside (a .w) (a .c)) (λ x. g (u + x)) (c .before .before .before .before .three .result)) (c .before .before .before .before .before .before .row-up .ensures) (c .before .before .before .before .three .ensures .0))
+          (c .before .before .before .three2 .ensures .0)
+          (subst (λ (u : ℕ). Least (Beside (a .w) (a .c)) (λ x. g (u + x)) (c .before .before .three3 .result)) (c .before .before .before .before .before .row-down .ensures) (c .before .before .three3 .ensures .0)),
+      omega (arith, c .min22 .ensures, c .before .before .three3 .ensures .1),
+    )
+
+pub around-spec : {M : Type 1} → statement M
+around-spec =
+    tie.close
+    (tie.spec (λ c κs. search needs) (λ c κs. search needs) three-requires three-requires-2 three-requires-3 (λ c κs. search needs)
+    (λ c κs. search needs) returns)

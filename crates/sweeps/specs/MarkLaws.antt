@@ -1,0 +1,143 @@
+-- Laws of single bits set and cleared, and of marks joined three at a time.
+use mathlib.Core.Path.{_≡_, refl, sym, ap, ap₂, subst, _∙_}
+use mathlib.Core.List.{List}
+use mathlib.Core.Bool.{Bool, true, false, not, _&&_, _||_}
+use mathlib.Core.Logic.{_⊎_, inl, inr, ⊎-elim}
+use Prim.Native.Nat.{ℕ, suc, _+_, _-_, _*_, _/_, _%_, _^_, _≤_, _<_}
+use native.Mathlib.Decide.{ℕ-discrete, decLt}
+use native.Mathlib.Omega.{arith}
+use borrow.Author.Tests.{ne-eqb, eq-eqb, le-leb}
+use lib.Bits.{bitAnd, bitOr, and-le-l}
+use lib.Dec.{leb, eqb}
+use lib.ListN.{length, getD, set, length-set}
+use lib.Seq.{getD-set-same}
+use Rattle.laws.specs.Tests.{clash, and-l, and-r, and-in, and-true, and-false, or-l, or-r, or-out, or-false}
+use Rattle.words.specs.Words.{wordBit, Digits, beside, Within}
+use Rattle.words.specs.Digits.{digits-zero, digits-and, digits-or}
+use Rattle.words.specs.RowLaws.{digits-but-not, Spreads}
+use Rattle.words.specs.WordLaws.{digits-here, digits-same, Filling, filling-none, filling-more, filling-all}
+use Rattle.sweeps.specs.Marks.{Cleared, Lit, Marked}
+
+-- one word changed ------------------------------------------------------------------------------------------------------
+
+pub set-word : (l : List ℕ) (i v : ℕ) (g : ℕ → Bool) → i < length l → Digits 64 v (i * 64) g → Within (i * 64) ((i + 1) * 64) g (wordBit l) (wordBit (set l i v))
+set-word l i v g h X = filling-all 64 i (i + 1) g (set l i v) l (omega arith) (filling-more 64 i i v g l l (omega arith) h (filling-none 64 i g l) X)
+
+module _ (l : List ℕ) (i k b : ℕ) (h : i < length l) (s : getD l i 0 < 2 ^ 64) (lk : k < 64) (B : (a : ℕ) → Digits 64 b a (λ j. eqb j (a + k))) where
+  pub cleared : Cleared (i * 64 + k) (set l i (bitAnd (getD l i 0) (2 ^ 64 - 1 - b))) l
+  cleared = record {
+    off = W .inner (i * 64 + k) (omega arith) (omega arith) ∙ ap (λ (x : Bool). wordBit l (i * 64 + k) && not x) (eq-eqb (i * 64 + k) (i * 64 + k) refl) ∙ and-false (wordBit l (i * 64 + k));
+    same = λ j n. elim (decLt j (i * 64)) [
+      | yes a ↦ W .before j a
+      | no a ↦ elim (decLt j ((i + 1) * 64)) [
+        | yes d ↦ W .inner j (omega arith) d ∙ ap (λ (x : Bool). wordBit l j && not x) (ne-eqb j (i * 64 + k) n) ∙ and-true (wordBit l j)
+        | no d ↦ W .behind j (omega arith)
+      ]
+    ];
+  }
+    where
+      W : Within (i * 64) ((i + 1) * 64) (λ j. wordBit l j && not (eqb j (i * 64 + k))) (wordBit l) (wordBit (set l i (bitAnd (getD l i 0) (2 ^ 64 - 1 - b))))
+      W = set-word l i _ (λ j. wordBit l j && not (eqb j (i * 64 + k))) h
+          (digits-but-not (getD l i 0) b (i * 64) (i * 64) (i * 64) (wordBit l) (λ j. eqb j (i * 64 + k)) (λ j. wordBit l j && not (eqb j (i * 64 + k))) (digits-here 64 l i s) (B (i * 64)) (λ x y. refl))
+
+  -- a set bit is lost, so the word falls
+  pub cleared-less : wordBit l (i * 64 + k) ≡ true → getD (set l i (bitAnd (getD l i 0) (2 ^ 64 - 1 - b))) i 0 < getD l i 0
+  cleared-less e =
+      let v = bitAnd (getD l i 0) (2 ^ 64 - 1 - b) in
+      let g : getD (set l i v) i 0 ≡ v = getD-set-same l i v 0 h in
+      elim (ℕ-discrete v (getD l i 0)) [
+        | yes q ↦ clash (here (set l i v) (omega arith) ∙ e) (cleared .off)
+        | no q ↦ omega (arith, and-le-l (getD l i 0) (2 ^ 64 - 1 - b))
+      ]
+    where
+      here : (m : List ℕ) → getD m i 0 ≡ getD l i 0 → wordBit m (i * 64 + k) ≡ wordBit l (i * 64 + k)
+      here m q =
+          let z : 63 - k + suc k ≡ 64 = omega arith in
+          Rattle.words.specs.WordLaws.flat-here 64 m i (63 - k) k z ∙ ap (λ (x : ℕ). Rattle.words.specs.Words.place x (63 - k)) q ∙ sym (Rattle.words.specs.WordLaws.flat-here 64 l i (63 - k) k z)
+
+  pub lit : Lit (i * 64 + k) (set l i (bitOr (getD l i 0) b)) l
+  lit = record {
+    on = W .inner (i * 64 + k) (omega arith) (omega arith) ∙ or-r (wordBit l (i * 64 + k)) _ (eq-eqb (i * 64 + k) (i * 64 + k) refl);
+    same = λ j n. elim (decLt j (i * 64)) [
+      | yes a ↦ W .before j a
+      | no a ↦ elim (decLt j ((i + 1) * 64)) [
+        | yes d ↦ W .inner j (omega arith) d ∙ ap (λ (x : Bool). wordBit l j || x) (ne-eqb j (i * 64 + k) n) ∙ or-false (wordBit l j)
+        | no d ↦ W .behind j (omega arith)
+      ]
+    ];
+  }
+    where
+      W : Within (i * 64) ((i + 1) * 64) (λ j. wordBit l j || eqb j (i * 64 + k)) (wordBit l) (wordBit (set l i (bitOr (getD l i 0) b)))
+      W = set-word l i _ (λ j. wordBit l j || eqb j (i * 64 + k)) h
+          (digits-or 64 (getD l i 0) b (i * 64) (i * 64) (i * 64) (wordBit l) (λ j. eqb j (i * 64 + k)) (λ j. wordBit l j || eqb j (i * 64 + k)) (digits-here 64 l i s) (B (i * 64)) (λ x y. refl))
+
+-- the marks of one word, joined by those of cand at t and beside it
+pub record Joined1 (t i : ℕ) (cand was out : List ℕ) : Type 0 where
+  pub adds : (j : ℕ) → i * 64 ≤ j → j < (i + 1) * 64 → t ≤ j + 1 → j ≤ t + 1 → wordBit cand j ≡ true → wordBit out j ≡ true
+  pub keeps : (j : ℕ) → wordBit was j ≡ true → wordBit out j ≡ true
+  pub only : (j : ℕ) → wordBit out j ≡ true → (wordBit was j ≡ true) ⊎ (wordBit cand j ≡ true)
+
+pub joined1 : (t i x : ℕ) (cand was : List ℕ) → i < length was → getD was i 0 < 2 ^ 64 → getD cand i 0 < 2 ^ 64 → Digits 64 x (i * 64) (beside 1 (λ j. eqb j t))
+    → Joined1 t i cand was (set was i (bitOr (getD was i 0) (bitAnd x (getD cand i 0))))
+unfolding beside
+joined1 t i x cand was h sw sc X = record {
+  adds = λ j a b lo hi u. W .inner j a b ∙ or-r (wordBit was j) _ (and-in _ _ (next j lo hi) u);
+  keeps = λ j u. elim (decLt j (i * 64)) [
+    | yes a ↦ W .before j a ∙ u
+    | no a ↦ elim (decLt j ((i + 1) * 64)) [ yes b ↦ W .inner j (omega arith) b ∙ or-l (wordBit was j) _ u | no b ↦ W .behind j (omega arith) ∙ u ]
+  ];
+  only = λ j u. elim (decLt j (i * 64)) [
+    | yes a ↦ inl (sym (W .before j a) ∙ u)
+    | no a ↦ elim (decLt j ((i + 1) * 64)) [
+      | yes b ↦ ⊎-elim (λ y. inl y) (λ y. inr (and-r (beside 1 (λ j. eqb j t) j) _ y)) (or-out (wordBit was j) (beside 1 (λ j. eqb j t) j && wordBit cand j) (sym (W .inner j (omega arith) b) ∙ u))
+      | no b ↦ inl (sym (W .behind j (omega arith)) ∙ u)
+    ]
+  ];
+}
+  where
+    W : Within (i * 64) ((i + 1) * 64) (λ j. wordBit was j || (beside 1 (λ j. eqb j t) j && wordBit cand j)) (wordBit was) (wordBit (set was i (bitOr (getD was i 0) (bitAnd x (getD cand i 0)))))
+    W = set-word was i _ (λ j. wordBit was j || (beside 1 (λ j. eqb j t) j && wordBit cand j)) h
+        (digits-or 64 (getD was i 0) _ (i * 64) (i * 64) (i * 64) (wordBit was) (λ j. beside 1 (λ j. eqb j t) j && wordBit cand j) _ (digits-here 64 was i sw)
+        (digits-and 64 x (getD cand i 0) (i * 64) (i * 64) (i * 64) (beside 1 (λ j. eqb j t)) (wordBit cand) (λ j. beside 1 (λ j. eqb j t) j && wordBit cand j) X (digits-here 64 cand i sc) (λ a b. refl)) (λ a b. refl))
+
+    next : (j : ℕ) → t ≤ j + 1 → j ≤ t + 1 → (eqb j t || eqb (j + 1) t || (leb 1 j && eqb (j - 1) t)) ≡ true
+    next j lo hi = elim (ℕ-discrete j t) [
+      | yes q ↦ or-l (eqb j t || eqb (j + 1) t) _ (or-l (eqb j t) _ (eq-eqb j t q))
+      | no q ↦ elim (decLt j t) [
+        | yes a ↦ or-l (eqb j t || eqb (j + 1) t) _ (or-r (eqb j t) _ (eq-eqb (j + 1) t (omega arith)))
+        | no a ↦ or-r (eqb j t || eqb (j + 1) t) _ (and-in (leb 1 j) _ (le-leb 1 j (omega arith)) (eq-eqb (j - 1) t (omega arith)))
+      ]
+    ]
+
+-- the words of the bit t alone, which is bit k of word i, and those beside it
+lone : (t i : ℕ) → (t < i * 64) ⊎ ((i + 1) * 64 ≤ t) → Digits 64 0 (i * 64) (λ j. eqb j t)
+lone t i o = digits-zero 64 (i * 64) (λ j. eqb j t) (λ k l. ne-eqb (i * 64 + k) t (λ z. ⊎-elim (λ (x : t < i * 64). omega arith) (λ (x : (i + 1) * 64 ≤ t). omega arith) o))
+
+module _ (i k b : ℕ) (lk : k < 64) (two : 2 ≤ i) (B : (a : ℕ) → Digits 64 b a (λ j. eqb j (a + k))) where
+  moved : {x d e : ℕ} {f : ℕ → Bool} → d ≡ e → Digits 64 x d f → Digits 64 x e f
+  moved q X = rw (← q) X
+
+  pub before-word : (x : ℕ) → Spreads 1 0 0 b x → Digits 64 x ((i - 1) * 64) (beside 1 (λ j. eqb j (i * 64 + k)))
+  before-word x S =
+      moved (omega arith) (S ((i - 2) * 64) (λ j. eqb j (i * 64 + k)) (lone (i * 64 + k) (i - 2) (inr (omega arith))) (moved {d = (i - 1) * 64} (omega arith) (lone (i * 64 + k) (i - 1) (inr (omega arith)))) (moved (omega arith) (B (i * 64))))
+
+  pub own-word : (x : ℕ) → Spreads 1 0 b 0 x → Digits 64 x (i * 64) (beside 1 (λ j. eqb j (i * 64 + k)))
+  own-word x S =
+      moved (omega arith) (S ((i - 1) * 64) (λ j. eqb j (i * 64 + k)) (lone (i * 64 + k) (i - 1) (inr (omega arith))) (moved (omega arith) (B (i * 64))) (moved {d = (i + 1) * 64} (omega arith) (lone (i * 64 + k) (i + 1) (inl (omega arith)))))
+
+  pub after-word : (x : ℕ) → Spreads 1 b 0 0 x → Digits 64 x ((i + 1) * 64) (beside 1 (λ j. eqb j (i * 64 + k)))
+  after-word x S =
+      moved (omega arith) (S (i * 64) (λ j. eqb j (i * 64 + k)) (B (i * 64)) (moved {d = (i + 1) * 64} (omega arith) (lone (i * 64 + k) (i + 1) (inl (omega arith)))) (moved {d = (i + 2) * 64} (omega arith) (lone (i * 64 + k) (i + 2) (inl (omega arith)))))
+
+  pub mark-three : (cand m0 m1 m2 m3 : List ℕ) → Joined1 (i * 64 + k) (i - 1) cand m0 m1 → Joined1 (i * 64 + k) i cand m1 m2 → Joined1 (i * 64 + k) (i + 1) cand m2 m3 → Marked (i * 64 + k) cand m3 m0
+  mark-three cand m0 m1 m2 m3 X Y Z = record {
+    adds = λ j lo hi u. elim (decLt j (i * 64)) [
+      | yes a ↦ Z .keeps j (Y .keeps j (X .adds j (omega arith) (omega arith) lo hi u))
+      | no a ↦ elim (decLt j ((i + 1) * 64)) [
+        | yes d ↦ Z .keeps j (Y .adds j (omega arith) d lo hi u)
+        | no d ↦ Z .adds j (omega arith) (omega arith) lo hi u
+      ]
+    ];
+    keeps = λ j u. Z .keeps j (Y .keeps j (X .keeps j u));
+    only = λ j u. ⊎-elim (λ u. ⊎-elim (X .only j) (λ u. inr u) (Y .only j u)) (λ u. inr u) (Z .only j u);
+  }

@@ -1,0 +1,231 @@
+-- Laws of relaxation: over marked pixels, in any order, it comes to the fewest steps.
+use mathlib.Core.Path.{_≡_, refl, sym, ap, subst, _∙_}
+use mathlib.Core.List.{List, [], _∷_}
+use mathlib.Core.Bool.{true, false, _&&_}
+use mathlib.Core.Logic.{_⊎_, inl, inr, ⊎-elim}
+use Prim.Native.Nat.{ℕ, zero, suc, _+_, _*_, _≤_, _<_, zero-le}
+use native.Mathlib.Nat.{not-suc-le-zero, le-of-suc-le-suc}
+use native.Mathlib.Decide.{ℕ-discrete}
+use native.Mathlib.Omega.{arith}
+use lib.ListN.{length, getD, set, length-set}
+use lib.Seq.{getD-set-same, getD-set-other, ext-getD}
+use Rattle.rules.specs.Demands.{onward, start, Joined}
+use Rattle.rules.specs.Images.{Plane}
+use Rattle.rules.specs.Planning.{touching, grown, touch}
+use Rattle.laws.specs.Growing.{ring-joined, ring-fewest, length-grown}
+use Rattle.laws.specs.Tests.{split, clash, and-l, and-r, and-in, not-in, not-out, some-in}
+use Rattle.laws.specs.Waves.{joined-free}
+use Rattle.sweeps.specs.Rings.{level, sumBy, one, later, Frame, Going}
+
+-- ---- sums over a list
+
+pub sum-set : (g : ℕ → ℕ) (l : List ℕ) (i v : ℕ) → i < length l → sumBy g (set l i v) + g (getD l i 0) ≡ sumBy g l + g v
+unfolding sumBy
+sum-set g [] i v h = absurd (not-suc-le-zero h)
+sum-set g (x ∷ l) zero v h = omega arith
+sum-set g (x ∷ l) (suc i) v h = let t = sum-set g l i v (le-of-suc-le-suc h) in omega arith
+
+one-le : (v : ℕ) → one v ≤ 1
+one-le zero = omega arith
+one-le (suc v) = omega arith
+
+count-le : (l : List ℕ) → sumBy one l ≤ length l
+unfolding sumBy
+count-le [] = zero-le
+count-le (x ∷ l) = let t = count-le l in omega (arith, one-le x)
+
+count-two : (l : List ℕ) (p q : ℕ) → p < length l → q < length l → (p ≡ q → ⊥) → getD l p 0 ≡ 0 → getD l q 0 ≡ 0 → sumBy one l + 2 ≤ length l
+count-two l p q hp hq ne zp zq =
+    let m = set l p 1 in
+    let a : sumBy one m + one (getD l p 0) ≡ sumBy one l + 1 = sum-set one l p 1 hp in
+    let a′ : sumBy one m + 0 ≡ sumBy one l + 1 = subst (λ (x : ℕ). sumBy one m + one x ≡ sumBy one l + 1) zp a in
+    let lm : length m ≡ length l = length-set l p 1 in
+    let b : sumBy one (set m q 1) + one (getD m q 0) ≡ sumBy one m + 1 = sum-set one m q 1 (omega arith) in
+    let zq′ : getD m q 0 ≡ 0 = getD-set-other l p q 1 0 (λ e. ne (sym e)) ∙ zq in
+    let b′ : sumBy one (set m q 1) + 0 ≡ sumBy one m + 1 = subst (λ (x : ℕ). sumBy one (set m q 1) + one x ≡ sumBy one m + 1) zq′ b in
+    omega (arith, count-le (set m q 1), length-set m q 1)
+
+pub zero-or : (v : ℕ) → (v ≡ 0) ⊎ (0 < v)
+zero-or zero = inl refl
+zero-or (suc v) = inr (omega arith)
+
+pub level-pos : (v : ℕ) → 0 < v → level v ≡ v
+level-pos zero h = absurd (not-suc-le-zero h)
+level-pos (suc v) h = refl
+
+one-pos : (v : ℕ) → 0 < v → one v ≡ 1
+one-pos zero h = absurd (not-suc-le-zero h)
+one-pos (suc v) h = refl
+
+pub level-zero : (v : ℕ) → v ≡ 0 → level v ≡ 65536
+level-zero v e = ap level e
+
+level-min : (v : ℕ) → 0 < level v
+level-min zero = omega arith
+level-min (suc v) = omega arith
+
+module _ (w h : ℕ) (free seed known : Plane) where
+  abbrev Path : ℕ → ℕ → Type 0
+  Path = Joined (h * w) (touch w) free seed
+
+  seed-of : {k p : ℕ} → Joined (h * w) (touch w) free seed k p → (o : ℕ) × (o < h * w) × (seed o ≡ true)
+  seed-of (start {o = o} f l t s) = (o, l, s)
+  seed-of (onward f l t r) = seed-of r
+
+  touching-by : (p o : ℕ) → o < h * w → touch w p o ≡ true → seed o ≡ true → touching (h * w) (touch w) seed p ≡ true
+  unfolding touching
+  touching-by p o l t s = some-in (h * w) (λ o. touch w p o && seed o) o l (and-in (touch w p o) _ t s)
+
+  later-split : (p : ℕ) → later free known p ≡ true → (free p ≡ true) × (known p ≡ false)
+  unfolding later
+  later-split p e = (and-l (free p) _ e, not-out (known p) (and-r (free p) _ e))
+
+  not-later : (p : ℕ) → free p ≡ true → later free known p ≡ false → known p ≡ true
+  unfolding later
+  not-later p f e = split (known p) (λ t. t) (λ t. clash (and-in (free p) _ f (not-in _ t)) e)
+
+  module _ (fr : Frame w h free seed) (l : List ℕ) (M : Plane) (G : Going w h free seed known l M) where
+    seed-none : (p : ℕ) → p < h * w → seed p ≡ true → getD l p 0 ≡ 0
+    seed-none p lp e = ⊎-elim (λ z. z) (λ z. absurd (fr .apart p lp (joined-free (h * w) (touch w) free seed (G .path p lp z)) e)) (zero-or (getD l p 0))
+
+    -- at rest ------------------------------------------------------------------------------------------------
+    module _ (quiet : (p : ℕ) → p < h * w → M p ≡ false) where
+      reach : {k p : ℕ} → p < h * w → Joined (h * w) (touch w) free seed k p → (0 < getD l p 0) × (getD l p 0 ≤ k)
+      reach lp (start {p = p} {o = o} f lo t s) = let (a, b) = G .sure p lp (G .first p lp f (touching-by p o lo t s)) in (a, b 1 (start f lo t s))
+      reach lp (onward {k = k} {p = p} {o = o} f lo t s) = go (reach lo s)
+        where
+          go : (0 < getD l o 0) × (getD l o 0 ≤ k) → (0 < getD l p 0) × (getD l p 0 ≤ suc k)
+          go ih =
+              let r : level (getD l p 0) ≤ level (getD l o 0) + 1 = G .rest p lp f (quiet p lp) o lo t in
+              let lo' = level-pos (getD l o 0) (ih .0) in
+              ⊎-elim
+              (λ (z : getD l p 0 ≡ 0).
+              let sd = seed-of s in
+              let ne : p ≡ sd .0 → ⊥ = λ (x : p ≡ sd .0). fr .apart p lp f (subst (λ (y : ℕ). seed y ≡ true) (sym x) (sd .2)) in
+              absurd (omega (arith, count-two l p (sd .0) (omega (arith, G .long)) (omega (arith, G .long, sd .1)) ne z (seed-none (sd .0) (sd .1) (sd .2)), G .few o lo, G .long, fr .room, level-zero (getD l p 0) z)))
+              (λ (z : 0 < getD l p 0). (z, omega (arith, level-pos (getD l p 0) z, ih .1)))
+              (zero-or (getD l p 0))
+
+      -- a plane at rest holds the rings
+      pub at-rest : l ≡ grown (h * w) (touch w) free seed (h * w)
+      at-rest = ext-getD 0 l R (G .long ∙ sym (length-grown (h * w) (touch w) free seed (h * w))) (λ p lp. go p (omega (arith, G .long)) (getD l p 0) refl (getD R p 0) refl)
+        where
+          R : List ℕ
+          R = grown (h * w) (touch w) free seed (h * w)
+
+          go : (p : ℕ) → p < h * w → (v : ℕ) → getD l p 0 ≡ v → (u : ℕ) → getD R p 0 ≡ u → getD l p 0 ≡ getD R p 0
+          go p lp zero ev zero eu = ev ∙ sym eu
+          go p lp zero ev (suc u) eu = absurd (omega (arith, reach lp (ring-joined (h * w) (touch w) free seed p u lp eu)))
+          go p lp (suc v) ev zero eu = absurd (omega (arith, ring-fewest (h * w) (touch w) free seed lp (G .path p lp (omega arith))))
+          go p lp (suc v) ev (suc u) eu = omega (arith, ring-fewest (h * w) (touch w) free seed lp (G .path p lp (omega arith)), reach lp (ring-joined (h * w) (touch w) free seed p u lp eu))
+
+    -- one pixel looked at ------------------------------------------------------------------------------------
+    module _ (p : ℕ) (lp : p < h * w) (mp : M p ≡ true) (best : ℕ) (low : (q : ℕ) → q < h * w → touch w p q ≡ true → best ≤ level (getD l q 0)) where
+      -- it stays, and loses its mark
+      pub kept : (N : Plane) → level (getD l p 0) ≤ best + 1 → ((x : ℕ) → x < h * w → N x ≡ false → (x ≡ p) ⊎ (M x ≡ false)) → ((x : ℕ) → x < h * w → N x ≡ true → M x ≡ true) → Going w h free seed known l N
+      kept N k out in' = record {
+        long = G .long;
+        path = G .path;
+        few = G .few;
+        first = G .first;
+        sure = G .sure;
+        rest = λ x lx f e q lq t. ⊎-elim
+            (λ (a : x ≡ p). let t' : touch w p q ≡ true = subst (λ (y : ℕ). touch w y q ≡ true) a t in
+            subst (λ (y : ℕ). level (getD l y 0) ≤ level (getD l q 0) + 1) (sym a) (omega (arith, low q lq t')))
+            (λ a. G .rest x lx f a q lq t) (out x lx e);
+        marked = λ x lx e. G .marked x lx (in' x lx e);
+      }
+
+      -- it falls, and its later neighbours get a mark
+      module _ (o : ℕ) (lo : o < h * w) (to : touch w p o ≡ true) (be : best ≡ level (getD l o 0)) (lower : best + 1 < level (getD l p 0)) (small : best < 65535) where
+        v : ℕ
+        v = best + 1
+
+        op : 0 < getD l o 0
+        op = ⊎-elim (λ (z : getD l o 0 ≡ 0). absurd (omega (arith, level-zero (getD l o 0) z))) (λ z. z) (zero-or (getD l o 0))
+
+        bo : best ≡ getD l o 0
+        bo = be ∙ level-pos (getD l o 0) op
+
+        pl : p < length l
+        pl = omega (arith, G .long)
+
+        path-v : Joined (h * w) (touch w) free seed (best + 1) p
+        path-v =
+            let s : Joined (h * w) (touch w) free seed (getD l o 0) o = G .path o lo op in
+            subst (λ (k : ℕ). Joined (h * w) (touch w) free seed k p) (omega (arith, bo)) (onward (later-split p (G .marked p lp mp) .0) lo to s)
+
+        pub fell : sumBy level (set l p (best + 1)) < sumBy level l
+        fell = omega (arith, sum-set level l p (best + 1) pl, level-pos (best + 1) (omega arith))
+
+        count-eq : sumBy one (set l p (best + 1)) + one (getD l p 0) ≡ sumBy one l + 1
+        count-eq = subst (λ (x : ℕ). sumBy one (set l p (best + 1)) + one (getD l p 0) ≡ sumBy one l + x) (one-pos (best + 1) (omega arith)) (sum-set one l p (best + 1) pl)
+
+        v-few : best + 1 ≤ sumBy one (set l p (best + 1))
+        v-few =
+            ⊎-elim
+            (λ (z : getD l p 0 ≡ 0). let a : sumBy one (set l p (best + 1)) + 0 ≡ sumBy one l + 1 = subst (λ (x : ℕ). sumBy one (set l p (best + 1)) + one x ≡ sumBy one l + 1) z count-eq in omega (arith, G .few o lo, bo))
+            (λ (z : 0 < getD l p 0). omega (arith, count-eq, one-le (getD l p 0), level-pos (getD l p 0) z, G .few p lp))
+            (zero-or (getD l p 0))
+
+        same : getD (set l p (best + 1)) p 0 ≡ best + 1
+        same = getD-set-same l p (best + 1) 0 pl
+
+        other : (x : ℕ) → (x ≡ p → ⊥) → getD (set l p (best + 1)) x 0 ≡ getD l x 0
+        other x n = getD-set-other l p x (best + 1) 0 n
+
+        level-le : (x : ℕ) → level (getD l x 0) ≤ level (getD (set l p (best + 1)) x 0) ⊎ (x ≡ p)
+        level-le x = elim (ℕ-discrete x p) [ yes a ↦ inr a | no a ↦ inl (subst (λ (y : ℕ). level (getD l x 0) ≤ level y) (sym (other x a)) (omega arith)) ]
+
+        pub lowered : (N : Plane) → ((x : ℕ) → x < h * w → N x ≡ false → (x ≡ p) ⊎ ((M x ≡ false) × (touch w x p ≡ true → later free known x ≡ false)))
+            → ((x : ℕ) → x < h * w → N x ≡ true → later free known x ≡ true) → Going w h free seed known (set l p (best + 1)) N
+        lowered N out in' = record {
+          long = length-set l p (best + 1) ∙ G .long;
+          path = λ x lx z. elim (ℕ-discrete x p) [
+            | yes a ↦ subst (λ (y : ℕ). Joined (h * w) (touch w) free seed (getD (set l p (best + 1)) y 0) y) (sym a) (subst (λ (k : ℕ). Joined (h * w) (touch w) free seed k p) (sym same) path-v)
+            | no a ↦ subst (λ (k : ℕ). Joined (h * w) (touch w) free seed k x) (sym (other x a)) (G .path x lx (subst (λ (k : ℕ). 0 < k) (other x a) z))
+          ];
+          few = λ x lx. elim (ℕ-discrete x p) [
+            | yes a ↦ subst (λ (y : ℕ). getD (set l p (best + 1)) y 0 ≤ sumBy one (set l p (best + 1))) (sym a) (omega (arith, same, v-few))
+            | no a ↦ omega (arith, other x a, G .few x lx, count-eq, one-le (getD l p 0))
+          ];
+          first = G .first;
+          sure = λ x lx e. elim (ℕ-discrete x p) [
+            | yes a ↦ clash (subst (λ (y : ℕ). known y ≡ true) a e) (later-split p (G .marked p lp mp) .1)
+            | no a ↦ subst (λ (r : ℕ). (0 < r) × ((k : ℕ) → Joined (h * w) (touch w) free seed k x → r ≤ k)) (sym (other x a)) (G .sure x lx e)
+          ];
+          rest = λ x lx f e q lq t. rests x lx f (out x lx e) q lq t;
+          marked = in';
+        }
+          where
+            L : ℕ → ℕ
+            L x = level (getD (set l p (best + 1)) x 0)
+
+            rest-p : (q : ℕ) → q < h * w → touch w p q ≡ true → level (getD (set l p (best + 1)) p 0) ≤ level (getD (set l p (best + 1)) q 0) + 1
+            rest-p q lq t =
+                let e : level (getD (set l p (best + 1)) p 0) ≡ best + 1 = ap level same ∙ level-pos (best + 1) (omega arith) in
+                elim (ℕ-discrete q p) [
+                  | yes a ↦ subst (λ (y : ℕ). level (getD (set l p (best + 1)) p 0) ≤ level (getD (set l p (best + 1)) y 0) + 1) (sym a) (omega arith)
+                  | no a ↦ omega (arith, e, low q lq t, ap level (other q a))
+                ]
+
+            at-p : (x q : ℕ) → x ≡ p → q < h * w → touch w x q ≡ true → level (getD (set l p (best + 1)) x 0) ≤ level (getD (set l p (best + 1)) q 0) + 1
+            at-p x q a lq t =
+                subst (λ (y : ℕ). level (getD (set l p (best + 1)) y 0) ≤ level (getD (set l p (best + 1)) q 0) + 1) (sym a)
+                (rest-p q lq (subst (λ (y : ℕ). touch w y q ≡ true) a t))
+
+            rests : (x : ℕ) → x < h * w → free x ≡ true → (x ≡ p) ⊎ ((M x ≡ false) × (touch w x p ≡ true → later free known x ≡ false)) → (q : ℕ) → q < h * w → touch w x q ≡ true
+                → level (getD (set l p (best + 1)) x 0) ≤ level (getD (set l p (best + 1)) q 0) + 1
+            rests x lx f (inl a) q lq t = at-p x q a lq t
+            rests x lx f (inr b) q lq t = elim (ℕ-discrete x p) [
+              | yes a ↦ at-p x q a lq t
+              | no a ↦ elim (ℕ-discrete q p) [
+                | yes c ↦
+                    let tp : touch w x p ≡ true = subst (λ (y : ℕ). touch w x y ≡ true) c t in
+                    let (o1, o2) = G .sure x lx (not-later x f (b .1 tp)) in
+                    let o3 : getD l x 0 ≤ suc (best + 1) = o2 (suc (best + 1)) (onward f lp tp path-v) in
+                    let e : level (getD (set l p (best + 1)) q 0) ≡ best + 1 = ap (λ (y : ℕ). level (getD (set l p (best + 1)) y 0)) c ∙ ap level same ∙ level-pos (best + 1) (omega arith) in
+                    omega (arith, e, o3, ap level (other x a) ∙ level-pos (getD l x 0) o1)
+                | no c ↦ omega (arith, ap level (other x a), ap level (other q c), G .rest x lx f (b .0) q lq t)
+              ]
+            ]
