@@ -78,6 +78,11 @@ static enum status read_stream(FILE *in, const char *name, struct bytes *file)
     return ferror(in) ? fail_file(shown_name(name), errno) : DONE;
 }
 
+void expect_full_files(void)
+{
+    signal(SIGXFSZ, SIG_IGN);
+}
+
 enum status read_file(const char *name, struct bytes *file)
 {
     file->data = NULL;
@@ -128,10 +133,11 @@ static void remove_and_die(int signal_number)
     raise(signal_number); /* comes when this function ends, and ends the program as if it had not been caught */
 }
 
+static const int stopping[] = {SIGHUP, SIGINT, SIGTERM};
+
 /* A run that is stopped while it writes leaves no temporary file behind. */
 static void watch_signals(void)
 {
-    static const int stopping[] = {SIGHUP, SIGINT, SIGTERM};
     struct sigaction action, old;
     memset(&action, 0, sizeof action);
     action.sa_handler = remove_and_die;
@@ -139,50 +145,73 @@ static void watch_signals(void)
     for (size_t i = 0; i < sizeof stopping / sizeof stopping[0]; i++)
         if (sigaction(stopping[i], NULL, &old) == 0 && old.sa_handler != SIG_IGN)
             sigaction(stopping[i], &action, NULL);
-    signal(SIGXFSZ, SIG_IGN); /* a limit on file sizes then fails the write, as a full disk does */
 }
 
-/* The name for a temporary file in the folder of `path`, as mkstemp wants it; or null. */
-static char *name_beside(const char *path)
+/* Signals wait while a temporary file is made or goes, so that none comes between the file and its being noted. */
+static void hold_signals(int how)
 {
-    static const char name[] = ".kg-XXXXXX";
+    sigset_t set;
+    sigemptyset(&set);
+    for (size_t i = 0; i < sizeof stopping / sizeof stopping[0]; i++) sigaddset(&set, stopping[i]);
+    sigprocmask(how, &set, NULL);
+}
+
+/* The name `name` in the folder of `path`; or null. */
+static char *name_beside(const char *path, const char *name)
+{
     const char *slash = strrchr(path, '/');
-    size_t folder = slash == NULL ? 0 : (size_t)(slash - path) + 1;
-    char *made = malloc(folder + sizeof name);
+    size_t folder = slash == NULL ? 0 : (size_t)(slash - path) + 1, length = strlen(name) + 1;
+    char *made = malloc(folder + length);
     if (made != NULL) {
         memcpy(made, path, folder);
-        memcpy(made + folder, name, sizeof name);
+        memcpy(made + folder, name, length);
     }
     return made;
+}
+
+/* Makes the new name in the folder of `path` last; where a folder cannot be synced, nothing is lost that could be kept. */
+static void sync_folder(const char *path)
+{
+    char *folder = name_beside(path, ".");
+    int opened = folder == NULL ? -1 : open(folder, O_RDONLY | O_DIRECTORY);
+    if (opened >= 0) {
+        fsync(opened);
+        close(opened);
+    }
+    free(folder);
 }
 
 /* Fills the open temporary file `made` and gives it the name `path`, or removes it. */
 static bool fill_and_rename(int to, const char *made, const char *path, mode_t mode, const struct bytes *content)
 {
     bool good = write_all(to, content) && fchmod(to, mode) == 0 && fsync(to) == 0;
-    good = close_written(to, good) && rename(made, path) == 0;
-    if (!good) {
-        int error = errno;
+    good = close_written(to, good);
+    hold_signals(SIG_BLOCK);
+    good = good && rename(made, path) == 0;
+    int error = errno;
+    if (!good)
         unlink(made);
-        errno = error;
-    }
+    temporary = NULL;
+    hold_signals(SIG_UNBLOCK);
+    if (good)
+        sync_folder(path);
+    errno = error;
     return good;
 }
 
 /* Writes a temporary file beside `path` and renames it, so that at every moment `path` is the old file or the new one. */
 static bool replace(const char *path, mode_t mode, const struct bytes *content)
 {
-    char *made = name_beside(path);
+    char *made = name_beside(path, ".kg-XXXXXX");
     if (made == NULL)
         return false;
     watch_signals();
+    hold_signals(SIG_BLOCK);
     int to = mkstemp(made);
-    bool good = false;
-    if (to >= 0) {
+    if (to >= 0)
         temporary = made;
-        good = fill_and_rename(to, made, path, mode, content);
-        temporary = NULL;
-    }
+    hold_signals(SIG_UNBLOCK);
+    bool good = to >= 0 && fill_and_rename(to, made, path, mode, content);
     int error = errno;
     free(made);
     errno = error;
@@ -223,6 +252,35 @@ static bool save_over(const char *name, const struct stat *old, const struct byt
     return good;
 }
 
+/* What the link `name` says, from where the link stands; or null. */
+static char *link_target(const char *name)
+{
+    char target[4096];
+    ssize_t length = readlink(name, target, sizeof target - 1);
+    if (length < 0)
+        return NULL;
+    target[length] = '\0';
+    return target[0] == '/' ? strdup(target) : name_beside(name, target);
+}
+
+/* Saves to a name that nothing has: behind a link to nothing the file itself is made. */
+static bool save_new(const char *name, const struct bytes *content)
+{
+    enum { MOST_LINKS = 40 };
+    char *path = strdup(name);
+    struct stat found;
+    for (int links = 0; path != NULL && links < MOST_LINKS && lstat(path, &found) == 0 && S_ISLNK(found.st_mode); links++) {
+        char *next = link_target(path);
+        free(path);
+        path = next;
+    }
+    bool good = path != NULL && replace(path, mode_of_new_files(), content);
+    int error = errno;
+    free(path);
+    errno = error;
+    return good;
+}
+
 enum status save_file(const char *name, const struct bytes *content)
 {
     struct stat old;
@@ -232,6 +290,6 @@ enum status save_file(const char *name, const struct bytes *content)
     if (stat(name, &old) == 0)
         good = save_over(name, &old, content);
     else
-        good = errno == ENOENT && replace(name, mode_of_new_files(), content);
+        good = errno == ENOENT && save_new(name, content);
     return good ? DONE : fail_file(name, errno);
 }

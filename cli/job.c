@@ -32,7 +32,7 @@ enum status job_read(struct job *job, const char *name)
     job->overhang = (uint32_t)told[KG_OVERHANG];
     job->stored = told[KG_STORED] != 0;
     job->part_at = told[KG_PART_AT];
-    job->ring_count = (job->n - 1) * job->w * job->h;
+    job->ring_count = kg_ring_count(job->w, job->h, job->n);
 
     kg_stretch part = kg_part(job->file.data, job->file.length);
     job->part = job->file.data + kg_offset(part);

@@ -113,6 +113,7 @@ static enum status run(int count, char *words[])
 
 int main(int count, char *words[])
 {
+    expect_full_files();
     enum status status = run(count, words);
     bool written = fflush(stdout) == 0 && !ferror(stdout); /* covers every print before */
     if (!written && status != UNUSABLE)

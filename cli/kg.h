@@ -52,6 +52,9 @@ void *room(uint64_t count, size_t size);
 /* How a file is named in messages. */
 const char *shown_name(const char *name);
 
+/* A write that goes over a limit on file sizes then fails as on a full disk, in place of ending the program. */
+void expect_full_files(void);
+
 /* Reads a whole file, or standard input for `-`. The caller frees file->data, also after a failure. */
 enum status read_file(const char *name, struct bytes *file);
 

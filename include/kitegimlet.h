@@ -32,6 +32,10 @@ static inline unsigned kg_row(kg_answer a) { return (unsigned)(a >> 32 & 0xFFFFu
 static inline unsigned kg_column(kg_answer a) { return (unsigned)(a >> 48 & 0xFFFFu); }
 static inline uint64_t kg_value(kg_answer a) { return a >> 16; }
 
+/* Of sizes that are in range: the bytes of a stack (part or support), and how many ring numbers there are. */
+static inline uint64_t kg_stack_bytes(uint64_t w, uint64_t h, uint64_t n) { return n * h * ((w + 7) / 8); }
+static inline uint64_t kg_ring_count(uint64_t w, uint64_t h, uint64_t n) { return (n - 1) * w * h; }
+
 /* The reach of an overhang, in whole pixels: kg_value. Refusals 2, 3. */
 kg_answer kg_reach(uint32_t pitch, uint32_t overhang);
 
