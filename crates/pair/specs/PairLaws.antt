@@ -23,7 +23,6 @@ use Rattle.image.specs.Loops.{Bits, Bits2, butNot}
 use Rattle.image.specs.Planes.{row-fits, scratch-op, scratch-seen}
 use Rattle.image.specs.Rows.{packed, Clean, Packs}
 use Rattle.image.specs.Scratch.{bitOf, Sizes, Scratch, seen}
-use Rattle.grow.specs.Fronts.{nearIn}
 use Rattle.pair.specs.Pairs.{pairRings, unexcused, pairSupport}
 
 -- A pair looks only at the pixels that exist -------------------------------------------------------------------------
@@ -161,7 +160,7 @@ layer-packs w h q lw rest low up above out n = support-packs w h lw (unexcused w
 -- A pair without shadow -------------------------------------------------------------------------------------------------
 
 module _ (w h q : ℕ) (lw : 0 < w) (low up : List ℕ) (cl : Clean w h low) (none : (j : ℕ) → j < length low * 8 → butNot (bitOf up j) (bitOf low j) ≡ false) where
-  no-shadow : (p : ℕ) → p < h * w → shadow (packed w low) (packed w up) p ≡ false
+  pub no-shadow : (p : ℕ) → p < h * w → shadow (packed w low) (packed w up) p ≡ false
   unfolding shadow packed
   no-shadow p lp = none (p / w * rowBytes w * 8 + p % w) (omega (arith, cl .long, place-in w h lw p lp))
 
@@ -174,43 +173,6 @@ module _ (w h q : ℕ) (lw : 0 < w) (low up : List ℕ) (cl : Clean w h low) (no
   unfolding unexcused
   bare-rest s P = packs-same w h lw (λ p. false) (unexcused w h q (packed w low) (packed w up)) s (λ p lp. sym (ap (λ (b : Bool). b && not (ltb 0 (getD (pairRings w h q (packed w low) (packed w up)) p 0))) (no-shadow p lp))) P
 
--- A pair with shadow, in scratch ----------------------------------------------------------------------------------------
-
-module _ (w h st : ℕ) (z : Sizes w h st) (q : ℕ) (low up lower upper shL seedL : List ℕ)
-    (sl : Scratch w h st (packed w low) lower) (su : Scratch w h st (packed w up) upper)
-    (bs : Bits2 ((h + 2) * st) butNot shL upper lower) (be : Bits2 ((h + 2) * st) _&&_ seedL lower upper) where
-  pub shadow-is : Scratch w h st (shadow (packed w low) (packed w up)) shL
-  unfolding shadow
-  shadow-is = scratch-op w h st z butNot (packed w up) (packed w low) shL upper lower refl su sl bs
-
-  pub seeds-are : Scratch w h st (seeds (packed w low) (packed w up)) seedL
-  unfolding seeds
-  seeds-are = scratch-op w h st z _&&_ (packed w low) (packed w up) seedL lower upper refl sl su be
-
-  shadow-at : (p : ℕ) → p < h * w → seen w st shL p ≡ shadow (packed w low) (packed w up) p
-  shadow-at = scratch-seen w h st z (shadow (packed w low) (packed w up)) shL shadow-is
-
-  seed-at : (p : ℕ) → p < h * w → seen w st seedL p ≡ seeds (packed w low) (packed w up) p
-  seed-at = scratch-seen w h st z (seeds (packed w low) (packed w up)) seedL seeds-are
-
-  pub shadow-apart : (x : ℕ) → x < h * w → seen w st shL x ≡ true → seen w st seedL x ≡ true → ⊥
-  unfolding shadow seeds
-  shadow-apart x lx a b = clash (and-l (packed w low x) _ (sym (seed-at x lx) ∙ b)) (not-out (packed w low x) (and-r (packed w up x) _ (sym (shadow-at x lx) ∙ a)))
-
-  pub seed-below : (x : ℕ) → x < h * w → seen w st seedL x ≡ true → seen w st lower x ≡ true
-  unfolding seeds
-  seed-below x lx a = scratch-seen w h st z (packed w low) lower sl x lx ∙ and-l (packed w low x) _ (sym (seed-at x lx) ∙ a)
-
-  -- the rings that were grown are those of the pair
-  pub pair-rings : (l : List ℕ) → l ≡ grown (h * w) (touch w) (nearIn w h q (seen w st lower) (seen w st shL)) (seen w st seedL) (h * w) → l ≡ pairRings w h q (packed w low) (packed w up)
-  unfolding pairRings reached nearIn
-  pair-rings l e = e ∙ grown-same (h * w) (touch w) (nearIn w h q (seen w st lower) (seen w st shL)) (reached w h q (packed w low) (packed w up)) (seen w st seedL) (seeds (packed w low) (packed w up))
-      (λ p lp. ap₂ _&&_ (shadow-at p lp) (near-same w h q (seen w st lower) (packed w low) (packed w up) (packed w up) (scratch-seen w h st z (packed w low) lower sl) (λ o lo. refl) p)) seed-at
-
-  -- what is left of the shadow is unexcused
-  pub rest-is : (ring ex left : List ℕ) → ring ≡ pairRings w h q (packed w low) (packed w up) → Scratch w h st (λ p. ltb 0 (getD ring p 0)) ex → Bits2 ((h + 2) * st) butNot left shL ex
-      → Scratch w h st (unexcused w h q (packed w low) (packed w up)) left
-  unfolding unexcused
-  rest-is ring ex left e sx b =
-      scratch-op w h st z butNot (shadow (packed w low) (packed w up)) (λ p. ltb 0 (getD (pairRings w h q (packed w low) (packed w up)) p 0)) left shL ex refl shadow-is
-      (subst (λ (r : List ℕ). Scratch w h st (λ p. ltb 0 (getD r p 0)) ex) e sx) b
+-- a clean plane packs its own pixels
+pub own-packs : (w h : ℕ) (s : List ℕ) → Clean w h s → Packs w h (packed w s) s
+own-packs w h s C = record { clean = C; pixels = λ p lp. refl }
