@@ -6,7 +6,8 @@ use mathlib.Core.Logic.{_⊎_}
 use Prim.Native.Nat.{ℕ, _+_, _*_, _/_, _%_, _<_, _≤_}
 use lib.ListN.{length, getD}
 use Rattle.words.specs.Words.{wordBit, rowPart}
-use Rattle.planes.specs.Scratch.{Ready, RowPut, rowBit}
+use Rattle.rules.specs.Images.{rowBytes}
+use Rattle.planes.specs.Scratch.{Ready, RowPut, Sizes, rowBit}
 
 -- row y of a pair: its seeds, and its shadow, where there is some; r is the first row from y on that has shadow, if `last` is that from y + 1 on
 pub record FoundRow (y n last r : ℕ) (low up left left' seed seed' : List ℕ) : Type 0 where
@@ -32,6 +33,11 @@ packedBit n l j = wordBit l ((j / (n * 8) + 33) * 320 + j % (n * 8))
 pub record Empty (l : List ℕ) : Type 0 where
   pub long : length l ≡ 1610
   pub none : (j : ℕ) → wordBit l j ≡ false
+
+-- the sizes of an image, and the bytes of a row
+pub record Sized (w h rb : ℕ) : Type 0 where
+  pub sizes : Sizes w h
+  pub bytes : rb ≡ rowBytes w
 
 -- scratch between pairs: four planes are empty, the other two have no bits but pixels', and ahead has its length
 pub record Spare (w h : ℕ) (left got front next seed lower ahead : List ℕ) : Type 0 where

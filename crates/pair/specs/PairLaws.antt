@@ -23,6 +23,7 @@ use Rattle.image.specs.Loops.{Bits, Bits2, butNot}
 use Rattle.image.specs.Planes.{row-fits, scratch-op, scratch-seen}
 use Rattle.image.specs.Rows.{packed, Clean, Packs}
 use Rattle.image.specs.Scratch.{bitOf, Sizes, Scratch, seen}
+use Rattle.pair.specs.Found.{Sized}
 use Rattle.pair.specs.Pairs.{pairRings, unexcused, pairSupport}
 
 -- A pair looks only at the pixels that exist -------------------------------------------------------------------------
@@ -77,21 +78,12 @@ support-byte rest low above i y m l =
     (bit-not (getD low i 0) m y l ∙ ap not (sym (bit-here low i m l)))
 
 -- the bytes of a packed plane, as the code counts them
-pub plane-size : (w h st : ℕ) → Sizes w h st → (h * (st - 1) ≡ h * rowBytes w) × (h * (st - 1) ≤ 8192)
+pub plane-size : (w h rb : ℕ) → Sized w h rb → (h * rb ≡ h * rowBytes w) × (h * rb ≤ 8192)
 unfolding rowBytes
-plane-size w h st z =
-    let e : st - 1 ≡ (w + 7) / 8 = omega (arith, z .st-is) in
-    let b : st - 1 ≤ 32 = omega (arith, e, z .w-max) in
-    let l : h * (st - 1) ≤ 256 * 32 = mul-le-mul (z .h-max) b in
-    (ap (λ (x : ℕ). h * x) e, omega arith)
-
--- what was put into the first places of a list
-pub prefix-back : (size : ℕ) (xs ys : List ℕ) → length xs ≡ size → take size (xs ++ ys) ≡ xs
-prefix-back size xs ys e = subst (λ (n : ℕ). take n (xs ++ ys) ≡ xs) e (back xs)
-  where
-    back : (l : List ℕ) → take (length l) (l ++ ys) ≡ l
-    back [] = refl
-    back (x ∷ l) = ap (λ (t : List ℕ). x ∷ t) (back l)
+plane-size w h rb z =
+    let b : rb ≤ 32 = omega (arith, z .bytes, z .sizes .w-max) in
+    let l : h * rb ≤ 256 * 32 = mul-le-mul (z .sizes .h-max) b in
+    (ap (λ (x : ℕ). h * x) (z .bytes), omega arith)
 
 -- the first places of an array of zeros
 zeros-at : (size b : ℕ) → getD (take size (replicate {A = ℕ} 8192 0)) b 0 ≡ 0
@@ -151,12 +143,6 @@ module _ (w h : ℕ) (lw : 0 < w) where
   pub packs-same : (f g : Plane) (s : List ℕ) → ((p : ℕ) → p < h * w → f p ≡ g p) → Packs w h f s → Packs w h g s
   packs-same f g s e P = record { clean = P .clean; pixels = λ p lp. P .pixels p lp ∙ e p lp }
 
--- the support of a layer, from its unexcused pixels
-pub layer-packs : (w h q : ℕ) → 0 < w → (rest low up above out : List ℕ) (n : ℕ) → Packs w h (unexcused w h q (packed w low) (packed w up)) rest → Clean w h above → length out ≡ h * rowBytes w
-    → n ≡ h * rowBytes w → Bits n (λ j. (bitOf rest j || bitOf above j) && not (bitOf low j)) out → Packs w h (pairSupport w h q (packed w low) (packed w up) (packed w above)) out
-unfolding pairSupport
-layer-packs w h q lw rest low up above out n = support-packs w h lw (unexcused w h q (packed w low) (packed w up)) rest low above out n
-
 -- A pair without shadow -------------------------------------------------------------------------------------------------
 
 module _ (w h q : ℕ) (lw : 0 < w) (low up : List ℕ) (cl : Clean w h low) (none : (j : ℕ) → j < length low * 8 → butNot (bitOf up j) (bitOf low j) ≡ false) where
@@ -168,10 +154,6 @@ module _ (w h q : ℕ) (lw : 0 < w) (low up : List ℕ) (cl : Clean w h low) (no
   unfolding pairRings reached
   bare-rings l long zeros = grown-none (h * w) (touch w) (reached w h q (packed w low) (packed w up)) (seeds (packed w low) (packed w up)) l long zeros
       (inl (λ p lp. ap (λ (b : Bool). b && near w h q (packed w low) p) (no-shadow p lp)))
-
-  pub bare-rest : (s : List ℕ) → Packs w h (λ p. false) s → Packs w h (unexcused w h q (packed w low) (packed w up)) s
-  unfolding unexcused
-  bare-rest s P = packs-same w h lw (λ p. false) (unexcused w h q (packed w low) (packed w up)) s (λ p lp. sym (ap (λ (b : Bool). b && not (ltb 0 (getD (pairRings w h q (packed w low) (packed w up)) p 0))) (no-shadow p lp))) P
 
 -- a clean plane packs its own pixels
 pub own-packs : (w h : ℕ) (s : List ℕ) → Clean w h s → Packs w h (packed w s) s

@@ -78,7 +78,21 @@ fn hanging(
     ensures { λ _. ⌜ Spare w h (now (left .exit)) (now (got .exit)) (now (front .exit)) (now (next .exit)) (now (seed .exit)) (now (lower .exit)) (now (ahead .exit)) ⌝ }
 {
     crate::rows::find(low, up, left, seed, ahead, w, h, n);
-    rings::rings(low, ring, seed, front, next, left, got, lower, ahead, w, h, n, q);
+    rings::rings(
+        low,
+        ring,
+        seed,
+        front,
+        next,
+        left,
+        got,
+        lower,
+        ahead,
+        w,
+        h,
+        n,
+        q,
+    );
     crate::rows::excuse(out, got, ahead, w, h, n);
     crate::rows::empty(left, got, front, next, ahead, w, h);
 }
@@ -117,6 +131,20 @@ pub fn layer(
         return;
     }
     hanging(
-        low, up, out, ring, left, got, front, next, seed, lower, ahead, w, h, n, q,
+        low,
+        up,
+        out,
+        ring,
+        left,
+        got,
+        front,
+        next,
+        seed,
+        lower,
+        ahead,
+        w,
+        h,
+        n,
+        q,
     );
 }

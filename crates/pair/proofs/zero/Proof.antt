@@ -17,15 +17,6 @@ abbrev μ-loop : tie.MeasureT-loop
 loop-holds : tie.Need-loop-holds Inv-loop μ-loop
 loop-holds c = (refl, omega arith, λ k l. absurd (omega arith))
 
-mul-ring : tie.Need-mul-ring Inv-loop μ-loop
-mul-ring c = search needs
-
-slice-write-ring : tie.Need-slice-write-ring Inv-loop μ-loop
-slice-write-ring c = search needs
-
-add-i : tie.Need-add-i Inv-loop μ-loop
-add-i c = search needs
-
 loop-less : tie.Need-loop-less Inv-loop μ-loop
 loop-less c = let L = c .before .loop in omega (arith, c .loop-test .taken, L .inv .0)
 
@@ -41,14 +32,5 @@ returns c = λ p l. c .before .loop .inv .2 p (omega (arith, c .loop-test .left,
 pub zero-spec : {M : Type 1} → statement M
 zero-spec =
     tie.close
-    (tie.spec
-    Inv-loop
-    μ-loop
-    loop-holds
-    mul-ring
-    slice-write-ring
-    add-i
-    loop-less
-    loop-again
-    same-length
+    (tie.spec Inv-loop μ-loop loop-holds (λ c. search needs) (λ c. search needs) (λ c. search needs) loop-less loop-again same-length
     returns)

@@ -9,10 +9,6 @@ use native.Mathlib.Omega.{arith}
 use borrow.Author.Needs.{needs}
 use Rattle.pair.proofs.rows.empty.Statement.{statement}
 use Rattle.pair.proofs.rows.empty.Tie as tie
-use Rattle.pair.proofs.rows.empty.Reads as reads
-use Rattle.pair.proofs.rows.empty.Lts as lts
-use Rattle.planes.proofs.rows.put.Reads as put-reads
-use Rattle.words.proofs.rows.none.Reads as none-reads
 
 abbrev Inv-loop : tie.InvT-loop
 Inv-loop a₀ b₀ c₀ d₀ ahead w h y₀ a b c d y = (y ≤ h) × (length a ≡ length a₀) × (length b ≡ length b₀) × (length c ≡ length c₀) × (length d ≡ length d₀) × Upto y (λ j. false) a₀ a × Upto y (λ j. false) b₀ b × Upto y (λ j. false) c₀ c × Upto y (λ j. false) d₀ d
@@ -27,10 +23,6 @@ shared-slice-read-y c = omega (arith, c .before .before .before .before .before 
 -- src/rows.rt:78:5
 loop-holds : tie.Need-loop-holds Inv-loop μ-loop
 loop-holds c = (c .before .before .before .before .before .before .pre .1 .on 0 (omega arith) .1, refl, refl, refl, refl, empty-start _ _ _ _ (c .before .before .before .before .before .before .pre .0) (c .before .before .before .before .before .before .pre .2), empty-start _ _ _ _ (c .before .before .before .before .before .before .pre .0) (c .before .before .before .before .before .before .pre .3), empty-start _ _ _ _ (c .before .before .before .before .before .before .pre .0) (c .before .before .before .before .before .before .pre .4), empty-start _ _ _ _ (c .before .before .before .before .before .before .pre .0) (c .before .before .before .before .before .before .pre .5))
-
--- src/rows.rt:79:13
-none-requires : tie.Need-none-requires Inv-loop μ-loop
-none-requires c κs = search needs
 
 -- src/rows.rt:80:30
 add-put : tie.Need-add-put Inv-loop μ-loop
@@ -125,27 +117,6 @@ returns c =
 pub empty-spec : {M : Type 1} → statement M
 empty-spec =
     tie.close
-    (tie.spec
-    Inv-loop
-    μ-loop
-    shared-slice-read-y
-    loop-holds
-    none-requires
-    add-put
-    put-requires
-    add-put-2
-    put-requires-2
-    add-put-3
-    put-requires-3
-    add-put-4
-    put-requires-4
-    add-y
-    mul-y
-    shared-slice-read-y-2
-    loop-less
-    loop-again
-    same-length
-    same-length-2
-    same-length-3
-    same-length-4
-    returns)
+    (tie.spec Inv-loop μ-loop shared-slice-read-y loop-holds (λ c κs. search needs) add-put put-requires add-put-2 put-requires-2 add-put-3
+    put-requires-3 add-put-4 put-requires-4 add-y mul-y shared-slice-read-y-2 loop-less loop-again same-length same-length-2 same-length-3
+    same-length-4 returns)

@@ -9,11 +9,6 @@ use native.Mathlib.Omega.{arith}
 use borrow.Author.Needs.{needs}
 use Rattle.pair.proofs.rows.excuse.Statement.{statement}
 use Rattle.pair.proofs.rows.excuse.Tie as tie
-use Rattle.pair.proofs.rows.excuse.Reads as reads
-use Rattle.pair.proofs.rows.excuse.Lts as lts
-use Rattle.pair.proofs.rows.excuse_row.Reads as excuse-row-reads
-use Rattle.planes.proofs.rows.row.Reads as row-reads
-use Rattle.words.proofs.rows.any.Reads as any-reads
 
 abbrev Inv-loop : tie.InvT-loop
 Inv-loop out₀ got ahead w h n y₀ out y = (y ≤ h) × ExcusedTo n y got out₀ out
@@ -48,10 +43,6 @@ add-row c = omega (arith, c .before .before .before .before .before .before .bef
 -- src/rows.rt:114:29
 row-requires : tie.Need-row-requires Inv-loop μ-loop
 row-requires c κs = (c .before .before .before .before .before .before .before .pre .2 .ready .long, omega (arith, c .before .before .before .before .before .before .before .pre .0 .h-max, c .before .loop-test .taken))
-
--- src/rows.rt:114:12
-any-requires : tie.Need-any-requires Inv-loop μ-loop
-any-requires c κs = search needs
 
 -- src/rows.rt:115:34
 mul-excuse-row : tie.Need-mul-excuse-row Inv-loop μ-loop
@@ -102,24 +93,5 @@ returns c =
 pub excuse-spec : {M : Type 1} → statement M
 excuse-spec =
     tie.close
-    (tie.spec
-    Inv-loop
-    μ-loop
-    shared-slice-read-y
-    loop-holds
-    add-y
-    mul-y
-    shared-slice-read-y-2
-    add-row
-    row-requires
-    any-requires
-    mul-excuse-row
-    add-excuse-row
-    mul-excuse-row-2
-    excuse-row-requires
-    loop-less
-    loop-again
-    loop-less-2
-    loop-again-2
-    same-length
-    returns)
+    (tie.spec Inv-loop μ-loop shared-slice-read-y loop-holds add-y mul-y shared-slice-read-y-2 add-row row-requires (λ c κs. search needs)
+    mul-excuse-row add-excuse-row mul-excuse-row-2 excuse-row-requires loop-less loop-again loop-less-2 loop-again-2 same-length returns)

@@ -12,9 +12,6 @@ use native.Mathlib.Omega.{arith}
 use borrow.Author.Needs.{needs}
 use Rattle.pair.proofs.rows.find.Statement.{statement}
 use Rattle.pair.proofs.rows.find.Tie as tie
-use Rattle.pair.proofs.rows.find.Reads as reads
-use Rattle.pair.proofs.rows.find.Lts as lts
-use Rattle.pair.proofs.rows.find_row.Reads as find-row-reads
 
 abbrev Inv-loop : tie.InvT-loop
 Inv-loop low up left₀ seed₀ ahead₀ w h n y₀ left seed ahead y = (y ≤ h) × (length left ≡ length left₀) × (length seed ≡ length seed₀) × (length ahead ≡ 257) × Below y (pixelBits w h (seeds (packed w low) (packed w up))) seed₀ seed × Below y (pixelBits w h (shadow (packed w low) (packed w up))) left₀ left × AheadFrom h y (pixelBits w h (shadow (packed w low) (packed w up))) ahead
@@ -38,18 +35,6 @@ loop-holds c =
     let up = packed (c .before .before .before .before .before .args .w) (c .before .before .before .before .before .args .up .now) in
     (omega arith, refl, refl, length-set (c .before .before .before .before .before .args .ahead .now) (c .before .before .before .before .before .args .h) (c .before .before .before .before .before .args .h) ∙ c .before .before .before .before .before .pre .1 .2, below-start _ _ z (seeds low up) _ (c .before .before .before .before .before .pre .1 .1), below-start _ _ z (shadow low up) _ (empty-ready _ _ _ (c .before .before .before .before .before .pre .1 .0)), ahead-start _ _ z (shadow low up) (c .before .before .before .before .before .args .ahead .now) (omega (arith, c .before .before .before .before .before .pre .1 .2, z .h-max)))
 
--- src/rows.rt:57:9
-sub-y : tie.Need-sub-y Inv-loop μ-loop
-sub-y c = search needs
-
--- src/rows.rt:58:26
-add-last : tie.Need-add-last Inv-loop μ-loop
-add-last c = search needs
-
--- src/rows.rt:58:20
-mul-last : tie.Need-mul-last Inv-loop μ-loop
-mul-last c = search needs
-
 -- src/rows.rt:58:20
 slice-read-last : tie.Need-slice-read-last Inv-loop μ-loop
 slice-read-last c = omega (arith, c .before .before .loop .inv .3, c .before .before .loop .inv .0, c .before .before .before .before .before .before .before .before .pre .0 .0 .h-max)
@@ -62,16 +47,8 @@ find-row-requires c κs =
     (a .0, row-at _ _ _ _ _ (c .before .before .before .before .before .before .before .before .before .before .pre .0 .0) (c .before .before .before .before .before .before .before .before .before .before .pre .0 .1) (c .before .before .before .before .before .before .before .before .before .before .pre .0 .3) ly .0, a .1, omega (arith, c .before .before .before .before .before .before .before .before .before .before .pre .0 .0 .h-max), c .before .before .before .before .loop .inv .1 ∙ c .before .before .before .before .before .before .before .before .before .before .pre .1 .0 .long, c .before .before .before .before .loop .inv .2 ∙ c .before .before .before .before .before .before .before .before .before .before .pre .1 .1 .long)
 
 -- src/rows.rt:60:9
-mul-ahead-2 : tie.Need-mul-ahead-2 Inv-loop μ-loop
-mul-ahead-2 c = search needs
-
--- src/rows.rt:60:9
 slice-write-ahead-2 : tie.Need-slice-write-ahead-2 Inv-loop μ-loop
 slice-write-ahead-2 c = omega (arith, c .before .before .before .before .before .before .before .before .before .loop .inv .3, c .before .before .before .before .before .before .before .before .before .loop .inv .0, c .before .before .before .before .before .before .before .before .before .before .before .before .before .before .before .pre .0 .0 .h-max)
-
--- src/rows.rt:56:5
-loop-less : tie.Need-loop-less Inv-loop μ-loop
-loop-less c = search needs
 
 -- src/rows.rt:56:5
 loop-again : tie.Need-loop-again Inv-loop μ-loop
@@ -113,22 +90,6 @@ returns c =
 pub find-spec : {M : Type 1} → statement M
 find-spec =
     tie.close
-    (tie.spec
-    Inv-loop
-    μ-loop
-    mul-ahead
-    slice-write-ahead
-    loop-holds
-    sub-y
-    add-last
-    mul-last
-    slice-read-last
-    find-row-requires
-    mul-ahead-2
-    slice-write-ahead-2
-    loop-less
-    loop-again
-    same-length
-    same-length-2
-    same-length-3
-    returns)
+    (tie.spec Inv-loop μ-loop mul-ahead slice-write-ahead loop-holds (λ c. search needs) (λ c. search needs) (λ c. search needs)
+    slice-read-last find-row-requires (λ c. search needs) slice-write-ahead-2 (λ c. search needs) loop-again same-length same-length-2
+    same-length-3 returns)
