@@ -1,4 +1,8 @@
--- What the contracts cite.
+-- What the contracts cite: the rings and the support of a pair, its rows found, scratch between pairs.
 pub mod Pairs
--- Laws about it.
+pub mod Found
+-- Laws about them.
+pub mod FoundLaws
+pub mod ExcuseLaws
 pub mod PairLaws
+pub mod HangLaws

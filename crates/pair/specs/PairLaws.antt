@@ -23,7 +23,7 @@ use Rattle.image.specs.Loops.{Bits, Bits2, butNot}
 use Rattle.image.specs.Planes.{row-fits, scratch-op, scratch-seen}
 use Rattle.image.specs.Rows.{packed, Clean, Packs}
 use Rattle.image.specs.Scratch.{bitOf, Sizes, Scratch, seen}
-use Rattle.grow.specs.Fronts.{nearIn}
+use Rattle.pair.specs.Found.{Sized}
 use Rattle.pair.specs.Pairs.{pairRings, unexcused, pairSupport}
 
 -- A pair looks only at the pixels that exist -------------------------------------------------------------------------
@@ -78,21 +78,12 @@ support-byte rest low above i y m l =
     (bit-not (getD low i 0) m y l ∙ ap not (sym (bit-here low i m l)))
 
 -- the bytes of a packed plane, as the code counts them
-pub plane-size : (w h st : ℕ) → Sizes w h st → (h * (st - 1) ≡ h * rowBytes w) × (h * (st - 1) ≤ 8192)
+pub plane-size : (w h rb : ℕ) → Sized w h rb → (h * rb ≡ h * rowBytes w) × (h * rb ≤ 8192)
 unfolding rowBytes
-plane-size w h st z =
-    let e : st - 1 ≡ (w + 7) / 8 = omega (arith, z .st-is) in
-    let b : st - 1 ≤ 32 = omega (arith, e, z .w-max) in
-    let l : h * (st - 1) ≤ 256 * 32 = mul-le-mul (z .h-max) b in
-    (ap (λ (x : ℕ). h * x) e, omega arith)
-
--- what was put into the first places of a list
-pub prefix-back : (size : ℕ) (xs ys : List ℕ) → length xs ≡ size → take size (xs ++ ys) ≡ xs
-prefix-back size xs ys e = subst (λ (n : ℕ). take n (xs ++ ys) ≡ xs) e (back xs)
-  where
-    back : (l : List ℕ) → take (length l) (l ++ ys) ≡ l
-    back [] = refl
-    back (x ∷ l) = ap (λ (t : List ℕ). x ∷ t) (back l)
+plane-size w h rb z =
+    let b : rb ≤ 32 = omega (arith, z .bytes, z .sizes .w-max) in
+    let l : h * rb ≤ 256 * 32 = mul-le-mul (z .sizes .h-max) b in
+    (ap (λ (x : ℕ). h * x) (z .bytes), omega arith)
 
 -- the first places of an array of zeros
 zeros-at : (size b : ℕ) → getD (take size (replicate {A = ℕ} 8192 0)) b 0 ≡ 0
@@ -152,16 +143,10 @@ module _ (w h : ℕ) (lw : 0 < w) where
   pub packs-same : (f g : Plane) (s : List ℕ) → ((p : ℕ) → p < h * w → f p ≡ g p) → Packs w h f s → Packs w h g s
   packs-same f g s e P = record { clean = P .clean; pixels = λ p lp. P .pixels p lp ∙ e p lp }
 
--- the support of a layer, from its unexcused pixels
-pub layer-packs : (w h q : ℕ) → 0 < w → (rest low up above out : List ℕ) (n : ℕ) → Packs w h (unexcused w h q (packed w low) (packed w up)) rest → Clean w h above → length out ≡ h * rowBytes w
-    → n ≡ h * rowBytes w → Bits n (λ j. (bitOf rest j || bitOf above j) && not (bitOf low j)) out → Packs w h (pairSupport w h q (packed w low) (packed w up) (packed w above)) out
-unfolding pairSupport
-layer-packs w h q lw rest low up above out n = support-packs w h lw (unexcused w h q (packed w low) (packed w up)) rest low above out n
-
 -- A pair without shadow -------------------------------------------------------------------------------------------------
 
 module _ (w h q : ℕ) (lw : 0 < w) (low up : List ℕ) (cl : Clean w h low) (none : (j : ℕ) → j < length low * 8 → butNot (bitOf up j) (bitOf low j) ≡ false) where
-  no-shadow : (p : ℕ) → p < h * w → shadow (packed w low) (packed w up) p ≡ false
+  pub no-shadow : (p : ℕ) → p < h * w → shadow (packed w low) (packed w up) p ≡ false
   unfolding shadow packed
   no-shadow p lp = none (p / w * rowBytes w * 8 + p % w) (omega (arith, cl .long, place-in w h lw p lp))
 
@@ -170,47 +155,6 @@ module _ (w h q : ℕ) (lw : 0 < w) (low up : List ℕ) (cl : Clean w h low) (no
   bare-rings l long zeros = grown-none (h * w) (touch w) (reached w h q (packed w low) (packed w up)) (seeds (packed w low) (packed w up)) l long zeros
       (inl (λ p lp. ap (λ (b : Bool). b && near w h q (packed w low) p) (no-shadow p lp)))
 
-  pub bare-rest : (s : List ℕ) → Packs w h (λ p. false) s → Packs w h (unexcused w h q (packed w low) (packed w up)) s
-  unfolding unexcused
-  bare-rest s P = packs-same w h lw (λ p. false) (unexcused w h q (packed w low) (packed w up)) s (λ p lp. sym (ap (λ (b : Bool). b && not (ltb 0 (getD (pairRings w h q (packed w low) (packed w up)) p 0))) (no-shadow p lp))) P
-
--- A pair with shadow, in scratch ----------------------------------------------------------------------------------------
-
-module _ (w h st : ℕ) (z : Sizes w h st) (q : ℕ) (low up lower upper shL seedL : List ℕ)
-    (sl : Scratch w h st (packed w low) lower) (su : Scratch w h st (packed w up) upper)
-    (bs : Bits2 ((h + 2) * st) butNot shL upper lower) (be : Bits2 ((h + 2) * st) _&&_ seedL lower upper) where
-  pub shadow-is : Scratch w h st (shadow (packed w low) (packed w up)) shL
-  unfolding shadow
-  shadow-is = scratch-op w h st z butNot (packed w up) (packed w low) shL upper lower refl su sl bs
-
-  pub seeds-are : Scratch w h st (seeds (packed w low) (packed w up)) seedL
-  unfolding seeds
-  seeds-are = scratch-op w h st z _&&_ (packed w low) (packed w up) seedL lower upper refl sl su be
-
-  shadow-at : (p : ℕ) → p < h * w → seen w st shL p ≡ shadow (packed w low) (packed w up) p
-  shadow-at = scratch-seen w h st z (shadow (packed w low) (packed w up)) shL shadow-is
-
-  seed-at : (p : ℕ) → p < h * w → seen w st seedL p ≡ seeds (packed w low) (packed w up) p
-  seed-at = scratch-seen w h st z (seeds (packed w low) (packed w up)) seedL seeds-are
-
-  pub shadow-apart : (x : ℕ) → x < h * w → seen w st shL x ≡ true → seen w st seedL x ≡ true → ⊥
-  unfolding shadow seeds
-  shadow-apart x lx a b = clash (and-l (packed w low x) _ (sym (seed-at x lx) ∙ b)) (not-out (packed w low x) (and-r (packed w up x) _ (sym (shadow-at x lx) ∙ a)))
-
-  pub seed-below : (x : ℕ) → x < h * w → seen w st seedL x ≡ true → seen w st lower x ≡ true
-  unfolding seeds
-  seed-below x lx a = scratch-seen w h st z (packed w low) lower sl x lx ∙ and-l (packed w low x) _ (sym (seed-at x lx) ∙ a)
-
-  -- the rings that were grown are those of the pair
-  pub pair-rings : (l : List ℕ) → l ≡ grown (h * w) (touch w) (nearIn w h q (seen w st lower) (seen w st shL)) (seen w st seedL) (h * w) → l ≡ pairRings w h q (packed w low) (packed w up)
-  unfolding pairRings reached nearIn
-  pair-rings l e = e ∙ grown-same (h * w) (touch w) (nearIn w h q (seen w st lower) (seen w st shL)) (reached w h q (packed w low) (packed w up)) (seen w st seedL) (seeds (packed w low) (packed w up))
-      (λ p lp. ap₂ _&&_ (shadow-at p lp) (near-same w h q (seen w st lower) (packed w low) (packed w up) (packed w up) (scratch-seen w h st z (packed w low) lower sl) (λ o lo. refl) p)) seed-at
-
-  -- what is left of the shadow is unexcused
-  pub rest-is : (ring ex left : List ℕ) → ring ≡ pairRings w h q (packed w low) (packed w up) → Scratch w h st (λ p. ltb 0 (getD ring p 0)) ex → Bits2 ((h + 2) * st) butNot left shL ex
-      → Scratch w h st (unexcused w h q (packed w low) (packed w up)) left
-  unfolding unexcused
-  rest-is ring ex left e sx b =
-      scratch-op w h st z butNot (shadow (packed w low) (packed w up)) (λ p. ltb 0 (getD (pairRings w h q (packed w low) (packed w up)) p 0)) left shL ex refl shadow-is
-      (subst (λ (r : List ℕ). Scratch w h st (λ p. ltb 0 (getD r p 0)) ex) e sx) b
+-- a clean plane packs its own pixels
+pub own-packs : (w h : ℕ) (s : List ℕ) → Clean w h s → Packs w h (packed w s) s
+own-packs w h s C = record { clean = C; pixels = λ p lp. refl }

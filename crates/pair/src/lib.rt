@@ -1,13 +1,30 @@
 // One pair of layers: its rings, and the support of its lower layer.
+pub mod rows;
+
+use rules::Bound;
 ghost use mathlib.Core.Path.{_≡_};
-ghost use mathlib.Core.Bool.{false, not, _&&_, _||_};
+ghost use mathlib.Core.Bool.{true, false, not, _&&_, _||_};
 ghost use Prim.Native.Nat.{ℕ, _*_, _<_, _≤_};
-ghost use lib.ListN.{length};
+ghost use lib.ListN.{length, getD};
 ghost use Rattle.rules.specs.Images.{rowBytes};
 ghost use Rattle.image.specs.Loops.{Bits, butNot};
 ghost use Rattle.image.specs.Rows.{packed, Clean, Packs};
-ghost use Rattle.image.specs.Scratch.{bitOf, Sizes};
-ghost use Rattle.pair.specs.Pairs.{pairRings, unexcused, pairSupport};
+ghost use Rattle.image.specs.Scratch.{bitOf};
+ghost use Rattle.planes.specs.Scratch.{Sizes};
+ghost use Rattle.pair.specs.Found.{Spare};
+ghost use Rattle.pair.specs.HangLaws.{Excused};
+ghost use Rattle.pair.specs.Pairs.{pairRings, pairSupport};
+
+// Sets every ring to 0.
+fn zero(ring: &mut [u16])
+    ensures { λ _. ⌜ ((p : ℕ) → p < length (now (ring .entry)) → getD (now (ring .exit)) p 0 ≡ 0) ⌝ }
+{
+    let mut i = 0;
+    while i < ring.len() {
+        ring[i] = 0;
+        i += 1;
+    }
+}
 
 // Whether the upper layer has a pixel with none of the lower one below it.
 fn shaded(low: &[u8], up: &[u8]) -> bool
@@ -23,7 +40,7 @@ fn shaded(low: &[u8], up: &[u8]) -> bool
     all != 0
 }
 
-// The support of a layer into `out`, by its unexcused pixels and the support of the layer above.
+// The support of a layer into `out`, by the pixels that hang, excused or not, and the support of the layer above.
 fn support(rest: &[u8], low: &[u8], above: &[u8], out: &mut [u8])
     requires { ⌜ (length (now rest) ≡ length (now out)) × (length (now low) ≡ length (now out)) × (length (now above) ≡ length (now out)) ⌝ }
     ensures { λ _. ⌜ Bits (length (now (out .entry))) (λ j. (bitOf (now (rest .entry)) j || bitOf (now (above .entry)) j) && not (bitOf (now (low .entry)) j)) (now (out .exit)) ⌝ }
@@ -35,80 +52,99 @@ fn support(rest: &[u8], low: &[u8], above: &[u8], out: &mut [u8])
     }
 }
 
-// The rings of a pair with shadow, and in `rest` its unexcused pixels.
+// The rings of a pair with shadow; its excused pixels are taken off the support.
 fn hanging(
     low: &[u8],
     up: &[u8],
-    rest: &mut [u8],
+    out: &mut [u8],
     ring: &mut [u16],
+    left: &mut [u64],
+    got: &mut [u64],
+    front: &mut [u64],
+    next: &mut [u64],
+    seed: &mut [u64],
+    lower: &mut [u64],
+    ahead: &mut [usize],
     w: usize,
     h: usize,
-    st: usize,
-    q: usize,
+    n: usize,
+    q: Bound,
 )
-    requires { ⌜ Sizes w h st × (q ≤ 1024) ⌝ }
-    requires { ⌜ Clean w h (now low) × Clean w h (now up) × (length (now rest) ≡ h * rowBytes w) × (length (now ring) ≡ h * w) ⌝ }
-    ensures { λ _. ⌜ now (ring .exit) ≡ pairRings w h q (packed w (now (low .entry))) (packed w (now (up .entry))) ⌝ }
-    ensures { λ _. ⌜ Packs w h (unexcused w h q (packed w (now (low .entry))) (packed w (now (up .entry)))) (now (rest .exit)) ⌝ }
+    requires { ⌜ Sizes w h × (n ≡ rowBytes w) × (q .0 ≤ 1024) ⌝ }
+    requires { ⌜ Clean w h (now low) × Clean w h (now up) × (length (now out) ≡ h * rowBytes w) × (length (now ring) ≡ h * w) × ((p : ℕ) → p < h * w → getD (now ring) p 0 ≡ 0) ⌝ }
+    requires { ⌜ Spare w h (now left) (now got) (now front) (now next) (now seed) (now lower) (now ahead) ⌝ }
+    ensures { λ _. ⌜ now (ring .exit) ≡ pairRings w h (q .0) (packed w (now (low .entry))) (packed w (now (up .entry))) ⌝ }
+    ensures { λ _. ⌜ Excused w h (now (ring .exit)) (now (out .entry)) (now (out .exit)) ⌝ }
+    ensures { λ _. ⌜ Spare w h (now (left .exit)) (now (got .exit)) (now (front .exit)) (now (next .exit)) (now (seed .exit)) (now (lower .exit)) (now (ahead .exit)) ⌝ }
 {
-    let n = (h + 2) * st;
-    let mut lower = [0u8; 8704];
-    image::rows::read_plane(low, &mut lower, w, h, st);
-    let mut upper = [0u8; 8704];
-    image::rows::read_plane(up, &mut upper, w, h, st);
-    let mut shadow = [0u8; 8704];
-    image::planes::but_not(&upper, &lower, &mut shadow, n);
-    let mut seed = [0u8; 8704];
-    image::planes::both(&lower, &upper, &mut seed, n);
-    let mut excused = [0u8; 8704];
-    grow::rings(&lower, &shadow, &seed, ring, &mut excused, w, h, st, q);
-    let mut bare = [0u8; 8704];
-    image::planes::but_not(&shadow, &excused, &mut bare, n);
-    image::rows::write_plane(&bare, rest, w, h, st);
+    crate::rows::find(low, up, left, seed, ahead, w, h, n);
+    rings::rings(
+        low,
+        ring,
+        seed,
+        front,
+        next,
+        left,
+        got,
+        lower,
+        ahead,
+        w,
+        h,
+        n,
+        q,
+    );
+    crate::rows::excuse(out, got, ahead, w, h, n);
+    crate::rows::empty(left, got, front, next, ahead, w, h);
 }
 
-// The rings of a pair, and its unexcused pixels. A pair without shadow has neither, and rest comes empty.
-fn rings(
-    low: &[u8],
-    up: &[u8],
-    rest: &mut [u8],
-    ring: &mut [u16],
-    w: usize,
-    h: usize,
-    st: usize,
-    q: usize,
-)
-    requires { ⌜ Sizes w h st × (q ≤ 1024) ⌝ }
-    requires { ⌜ Clean w h (now low) × Clean w h (now up) × Packs w h (λ p. false) (now rest) × (length (now ring) ≡ h * w) ⌝ }
-    ensures { λ _. ⌜ now (ring .exit) ≡ pairRings w h q (packed w (now (low .entry))) (packed w (now (up .entry))) ⌝ }
-    ensures { λ _. ⌜ Packs w h (unexcused w h q (packed w (now (low .entry))) (packed w (now (up .entry)))) (now (rest .exit)) ⌝ }
-{
-    if shaded(low, up) {
-        hanging(low, up, rest, ring, w, h, st, q);
-    } else {
-        grow::start::zero(ring);
-    }
-}
-
-// The rings of a pair, and the support of its lower layer; above is that of its upper layer.
+// The rings of a pair, and the support of its lower layer; above is that of its upper layer, which has no pixel of that layer. The other
+// planes are scratch, empty between pairs.
 pub fn layer(
     low: &[u8],
     up: &[u8],
     above: &[u8],
     out: &mut [u8],
     ring: &mut [u16],
+    left: &mut [u64],
+    got: &mut [u64],
+    front: &mut [u64],
+    next: &mut [u64],
+    seed: &mut [u64],
+    lower: &mut [u64],
+    ahead: &mut [usize],
     w: usize,
     h: usize,
-    st: usize,
-    q: usize,
+    n: usize,
+    q: Bound,
 )
-    requires { ⌜ Sizes w h st × (q ≤ 1024) ⌝ }
+    requires { ⌜ Sizes w h × (n ≡ rowBytes w) × (q .0 ≤ 1024) ⌝ }
     requires { ⌜ Clean w h (now low) × Clean w h (now up) × Clean w h (now above) × (length (now out) ≡ h * rowBytes w) × (length (now ring) ≡ h * w) ⌝ }
-    ensures { λ _. ⌜ now (ring .exit) ≡ pairRings w h q (packed w (now (low .entry))) (packed w (now (up .entry))) ⌝ }
-    ensures { λ _. ⌜ Packs w h (pairSupport w h q (packed w (now (low .entry))) (packed w (now (up .entry))) (packed w (now (above .entry)))) (now (out .exit)) ⌝ }
+    requires { ⌜ ((p : ℕ) → p < h * w → packed w (now above) p ≡ true → packed w (now up) p ≡ true → ⊥) ⌝ }
+    requires { ⌜ Spare w h (now left) (now got) (now front) (now next) (now seed) (now lower) (now ahead) ⌝ }
+    ensures { λ _. ⌜ now (ring .exit) ≡ pairRings w h (q .0) (packed w (now (low .entry))) (packed w (now (up .entry))) ⌝ }
+    ensures { λ _. ⌜ Packs w h (pairSupport w h (q .0) (packed w (now (low .entry))) (packed w (now (up .entry))) (packed w (now (above .entry)))) (now (out .exit)) ⌝ }
+    ensures { λ _. ⌜ Spare w h (now (left .exit)) (now (got .exit)) (now (front .exit)) (now (next .exit)) (now (seed .exit)) (now (lower .exit)) (now (ahead .exit)) ⌝ }
 {
-    let size = h * (st - 1);
-    let mut rest = [0u8; 8192];
-    rings(low, up, &mut rest[..size], ring, w, h, st, q);
-    support(&rest[..size], low, above, out);
+    zero(ring);
+    support(up, low, above, out);
+    if !shaded(low, up) {
+        return;
+    }
+    hanging(
+        low,
+        up,
+        out,
+        ring,
+        left,
+        got,
+        front,
+        next,
+        seed,
+        lower,
+        ahead,
+        w,
+        h,
+        n,
+        q,
+    );
 }

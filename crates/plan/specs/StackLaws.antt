@@ -9,18 +9,20 @@ use native.Mathlib.Decide.{decLt, ℕ-discrete}
 use native.Mathlib.Omega.{arith}
 use borrow.Rule.Slice.PartMut.{midOf, putMid}
 use lib.Dec.{ltb, eqb}
-use lib.ListN.{length, getD, set, take, drop, List·getD-eq-default}
+use lib.ListN.{length, getD, set, take, drop, List·getD-eq-default, replicate, length-replicate}
 use lib.Seq.{ext-getD, getD-drop, getD-set-same, getD-set-other}
 use Rattle.rules.specs.Images.{paddingSet, Plane, Stack, rowBytes, pixel, bytesOf, ringAt}
 use Rattle.rules.specs.Planning.{shadow, ringPlane, rings, excused, planned, supportUnder, topOf, empty, plannedRings, plannedBytes}
 use Rattle.rules.specs.Tools.{joinedUp}
 use Rattle.laws.specs.Growing.{length-grown}
-use Rattle.laws.specs.Soundness.{getD-joined, rings-length, not-excused, planned-step}
-use Rattle.laws.specs.Tests.{length-each}
+use Rattle.laws.specs.Soundness.{getD-joined, rings-length, not-excused, planned-step, planned-clear}
+use Rattle.laws.specs.Tests.{length-each, clash}
 use Rattle.image.specs.Packed.{plane-clean, plane-at, plane-long, plane-pixel, plane-bytes, stack-plane}
 use Rattle.image.specs.Planes.{row-fits, row-next}
 use Rattle.image.specs.Rows.{Clean, Packs, packed, planeBytes, plane, OnlyPlane}
 use Rattle.image.specs.Stretches.{put-plane, put-only}
+use Rattle.planes.specs.PlaneLaws.{zero-bits, zero-ready}
+use Rattle.pair.specs.Found.{Empty, Spare}
 use Rattle.pair.specs.PairLaws.{rings-same, support-same, packs-same}
 use Rattle.pair.specs.Pairs.{pairRings, unexcused, pairSupport}
 use Rattle.plan.specs.Stacks.{From, plannedStack, Down}
@@ -214,6 +216,15 @@ module _ (w h n size i : ℕ) (part : List ℕ) (es : size ≡ h * rowBytes w) (
   pub lent-up : Clean w h (cutUp size i part)
   lent-up = subst (Clean w h) (sym (up-plane size i part ∙ ap (λ (x : ℕ). plane x (suc i) part) es)) (plane-clean w h n part long pad (suc i) li)
 
+-- the support of the layer above has none of its pixels
+pub above-apart : (w h n q size i : ℕ) → 0 < w → (part support rings above : List ℕ) → size ≡ h * rowBytes w → length part ≡ n * h * rowBytes w → suc i < n → Down w h n q (i + 1) part support rings above
+    → (p : ℕ) → p < h * w → packed w above p ≡ true → packed w (cutUp size i part) p ≡ true → ⊥
+above-apart w h n q size i lw part support rings above es long li D p lp a u =
+    let e : cutUp size i part ≡ plane (h * rowBytes w) (suc i) part = up-plane size i part ∙ ap (λ (x : ℕ). plane x (suc i) part) es in
+    let on : pixel w h part (suc i) p ≡ true = sym (plane-pixel w h n part long lw (suc i) p lp) ∙ ap (λ (s : List ℕ). packed w s p) (sym e) ∙ u in
+    let sup : plannedStack w h n q part (suc i) p ≡ true = ap (λ (x : ℕ). plannedStack w h n q part x p) (sym (add-one i)) ∙ sym (D .above-is .pixels p lp) ∙ a in
+    clash on (planned-clear w h n (λ k. q) (pixel w h part) empty (ringAt w h (plannedRings w h n (λ k. q) part)) (suc i) p li sup)
+
 pub lent-rings : (w h n i : ℕ) (s : List ℕ) → length s ≡ (n - 1) * (h * w) → suc i < n → length (take (i * (h * w) + h * w - i * (h * w)) (drop (i * (h * w)) s)) ≡ h * w
 lent-rings w h n i s el li = ap length (low-plane (h * w) i s) ∙ plane-long (h * w) i (n - 1) s el (omega arith)
 
@@ -268,3 +279,18 @@ module _ (w h n : ℕ) (support ys : List ℕ) (ln : 0 < n) (ls : length support
 
   pub top-done : (size : ℕ) → size ≡ h * rowBytes w → TopDone size
   top-done size es = subst TopDone (sym es) top-done-at
+
+-- scratch as it is made
+pub fresh-spare : (w h : ℕ) → Spare w h (replicate 1610 0) (replicate 1610 0) (replicate 1610 0) (replicate 1610 0) (replicate 1610 0) (replicate 1610 0) (replicate 257 0)
+fresh-spare w h = record {
+  left-empty = none;
+  got-empty = none;
+  front-empty = none;
+  next-empty = none;
+  seed-ready = zero-ready w h;
+  lower-ready = zero-ready w h;
+  ahead-long = length-replicate {A = ℕ} 257 0;
+}
+  where
+    none : Empty (replicate 1610 0)
+    none = record { long = length-replicate {A = ℕ} 1610 0; none = zero-bits }

@@ -1,6 +1,7 @@
 // Planning: support and ring numbers of a stack, from the top layer down. The call refuses, or works, and answers.
 pub mod stack;
 
+use rules::Bound;
 use rules::Planned;
 use rules::Settings;
 ghost use mathlib.Core.Path.{_≡_};
@@ -41,7 +42,16 @@ pub fn plan(s: Settings, part: &[u8], support: &mut [u8], rings: &mut [u16]) -> 
     let pitch = s.pitch;
     let overhang = s.overhang;
     let reach = limits::reach_of(pitch, overhang);
-    let st = limits::row_bytes(s.w) + 1;
-    crate::stack::stack(part, support, rings, s.w, s.h, s.n, st, reach.0 * reach.0);
+    let rb = limits::row_bytes(s.w);
+    crate::stack::stack(
+        part,
+        support,
+        rings,
+        s.w,
+        s.h,
+        s.n,
+        rb,
+        Bound(reach.0 * reach.0),
+    );
     Planned::Done
 }

@@ -1,4 +1,5 @@
 // The stack from the top layer down. Each layer is worked on in its own stretches of the lent buffers.
+use rules::Bound;
 ghost use mathlib.Core.Path.{_≡_};
 ghost use mathlib.Core.Bool.{false};
 ghost use Prim.Native.Nat.{suc, _+_, _-_, _*_, _<_, _≤_};
@@ -6,7 +7,7 @@ ghost use lib.ListN.{length};
 ghost use Rattle.rules.specs.Images.{rowBytes, paddingSet};
 ghost use Rattle.rules.specs.Planning.{plannedRings, plannedBytes};
 ghost use Rattle.image.specs.Rows.{Packs, plane, OnlyPlane};
-ghost use Rattle.image.specs.Scratch.{Sizes};
+ghost use Rattle.pair.specs.Found.{Sized, Spare};
 ghost use Rattle.plan.specs.Stacks.{Buffers, Down};
 
 // Copies a plane.
@@ -27,19 +28,28 @@ fn layer_at(
     support: &mut [u8],
     rings: &mut [u16],
     above: &mut [u8],
+    left: &mut [u64],
+    got: &mut [u64],
+    front: &mut [u64],
+    next: &mut [u64],
+    seed: &mut [u64],
+    lower: &mut [u64],
+    ahead: &mut [usize],
     w: usize,
     h: usize,
     n: usize,
-    st: usize,
-    q: usize,
+    rb: usize,
+    q: Bound,
     i: usize,
 )
-    requires { ⌜ Sizes w h st × (q ≤ 1024) × (suc i < n) ⌝ }
+    requires { ⌜ Sized w h rb × (q .0 ≤ 1024) × (suc i < n) ⌝ }
     requires { ⌜ Buffers w h n (now part) (now support) (now rings) ⌝ }
-    requires { ⌜ Down w h n q (i + 1) (now part) (now support) (now rings) (now above) ⌝ }
-    ensures { λ _. ⌜ Down w h n q i (now (part .entry)) (now (support .exit)) (now (rings .exit)) (now (above .exit)) ⌝ }
+    requires { ⌜ Down w h n (q .0) (i + 1) (now part) (now support) (now rings) (now above) ⌝ }
+    requires { ⌜ Spare w h (now left) (now got) (now front) (now next) (now seed) (now lower) (now ahead) ⌝ }
+    ensures { λ _. ⌜ Down w h n (q .0) i (now (part .entry)) (now (support .exit)) (now (rings .exit)) (now (above .exit)) ⌝ }
+    ensures { λ _. ⌜ Spare w h (now (left .exit)) (now (got .exit)) (now (front .exit)) (now (next .exit)) (now (seed .exit)) (now (lower .exit)) (now (ahead .exit)) ⌝ }
 {
-    let size = h * (st - 1);
+    let size = h * rb;
     let area = h * w;
     let a = i * size;
     let m = a + size;
@@ -50,9 +60,16 @@ fn layer_at(
         above,
         &mut support[a..m],
         &mut rings[x..x + area],
+        left,
+        got,
+        front,
+        next,
+        seed,
+        lower,
+        ahead,
         w,
         h,
-        st,
+        rb,
         q,
     );
     put(&support[a..m], above);
@@ -64,37 +81,63 @@ fn layers(
     support: &mut [u8],
     rings: &mut [u16],
     above: &mut [u8],
+    left: &mut [u64],
+    got: &mut [u64],
+    front: &mut [u64],
+    next: &mut [u64],
+    seed: &mut [u64],
+    lower: &mut [u64],
+    ahead: &mut [usize],
     w: usize,
     h: usize,
     n: usize,
-    st: usize,
-    q: usize,
+    rb: usize,
+    q: Bound,
 )
-    requires { ⌜ Sizes w h st × (q ≤ 1024) × (0 < n) ⌝ }
+    requires { ⌜ Sized w h rb × (q .0 ≤ 1024) × (0 < n) ⌝ }
     requires { ⌜ Buffers w h n (now part) (now support) (now rings) ⌝ }
-    requires { ⌜ Down w h n q (n - 1) (now part) (now support) (now rings) (now above) ⌝ }
-    ensures { λ _. ⌜ now (support .exit) ≡ plannedBytes w h n (λ k. q) (now (part .entry)) ⌝ }
-    ensures { λ _. ⌜ now (rings .exit) ≡ plannedRings w h n (λ k. q) (now (part .entry)) ⌝ }
+    requires { ⌜ Down w h n (q .0) (n - 1) (now part) (now support) (now rings) (now above) ⌝ }
+    requires { ⌜ Spare w h (now left) (now got) (now front) (now next) (now seed) (now lower) (now ahead) ⌝ }
+    ensures { λ _. ⌜ now (support .exit) ≡ plannedBytes w h n (λ k. q .0) (now (part .entry)) ⌝ }
+    ensures { λ _. ⌜ now (rings .exit) ≡ plannedRings w h n (λ k. q .0) (now (part .entry)) ⌝ }
 {
     let mut i = n - 1;
     while 0 < i {
         i -= 1;
-        layer_at(part, support, rings, above, w, h, n, st, q, i);
+        layer_at(
+            part,
+            support,
+            rings,
+            above,
+            left,
+            got,
+            front,
+            next,
+            seed,
+            lower,
+            ahead,
+            w,
+            h,
+            n,
+            rb,
+            q,
+            i,
+        );
     }
 }
 
 // The top layer has no support.
-fn top(support: &mut [u8], above: &[u8], w: usize, h: usize, n: usize, st: usize)
-    requires { ⌜ Sizes w h st × (0 < n) ⌝ }
+fn top(support: &mut [u8], above: &[u8], w: usize, h: usize, n: usize, rb: usize)
+    requires { ⌜ Sized w h rb × (0 < n) ⌝ }
     requires { ⌜ (length (now support) ≡ n * h * rowBytes w) × Packs w h (λ p. false) (now above) ⌝ }
     ensures { λ _. ⌜ (plane (h * rowBytes w) (n - 1) (now (support .exit)) ≡ now (above .entry)) × OnlyPlane (h * rowBytes w) (n - 1) (now (support .exit)) (now (support .entry)) ⌝ }
 {
-    let size = h * (st - 1);
+    let size = h * rb;
     let a = (n - 1) * size;
     put(above, &mut support[a..a + size]);
 }
 
-// The whole stack, for the bound q on squared distances.
+// The whole stack, for the bound q on squared distances. The scratch of its pairs is made here and lent down.
 pub fn stack(
     part: &[u8],
     support: &mut [u8],
@@ -102,16 +145,40 @@ pub fn stack(
     w: usize,
     h: usize,
     n: usize,
-    st: usize,
-    q: usize,
+    rb: usize,
+    q: Bound,
 )
-    requires { ⌜ Sizes w h st × (q ≤ 1024) × (0 < n) ⌝ }
+    requires { ⌜ Sized w h rb × (q .0 ≤ 1024) × (0 < n) ⌝ }
     requires { ⌜ Buffers w h n (now part) (now support) (now rings) ⌝ }
-    ensures { λ _. ⌜ now (support .exit) ≡ plannedBytes w h n (λ k. q) (now (part .entry)) ⌝ }
-    ensures { λ _. ⌜ now (rings .exit) ≡ plannedRings w h n (λ k. q) (now (part .entry)) ⌝ }
+    ensures { λ _. ⌜ now (support .exit) ≡ plannedBytes w h n (λ k. q .0) (now (part .entry)) ⌝ }
+    ensures { λ _. ⌜ now (rings .exit) ≡ plannedRings w h n (λ k. q .0) (now (part .entry)) ⌝ }
 {
-    let size = h * (st - 1);
+    let size = h * rb;
     let mut above = [0u8; 8192];
-    top(support, &above[..size], w, h, n, st);
-    layers(part, support, rings, &mut above[..size], w, h, n, st, q);
+    top(support, &above[..size], w, h, n, rb);
+    let mut left = [0u64; 1610];
+    let mut got = [0u64; 1610];
+    let mut front = [0u64; 1610];
+    let mut next = [0u64; 1610];
+    let mut seed = [0u64; 1610];
+    let mut lower = [0u64; 1610];
+    let mut ahead = [0usize; 257];
+    layers(
+        part,
+        support,
+        rings,
+        &mut above[..size],
+        &mut left,
+        &mut got,
+        &mut front,
+        &mut next,
+        &mut seed,
+        &mut lower,
+        &mut ahead,
+        w,
+        h,
+        n,
+        rb,
+        q,
+    );
 }

@@ -32,7 +32,7 @@ use Rattle.rings.specs.GoingLaws.{waves-going}
 
 -- a pixel with a ring is one of the plane, and joined by as many steps as its ring says
 module _ (w h k : ℕ) (over seed : Plane) (p : ℕ) (lp : p < h * w) (a : 0 < getD (grown (h * w) (touch w) over seed k) p 0) where
-  ring-over : over p ≡ true
+  pub ring-over : over p ≡ true
   ring-over = go (getD (grown (h * w) (touch w) over seed k) p 0) refl
     where
       go : (r : ℕ) → getD (grown (h * w) (touch w) over seed k) p 0 ≡ r → over p ≡ true

@@ -8,8 +8,6 @@ use native.Mathlib.Omega.{arith}
 use borrow.Author.Needs.{needs}
 use Rattle.pair.proofs.shaded.Statement.{statement}
 use Rattle.pair.proofs.shaded.Tie as tie
-use Rattle.pair.proofs.shaded.Reads as reads
-use Rattle.pair.proofs.shaded.Lts as lts
 
 abbrev Inv-loop : tie.InvT-loop
 Inv-loop low up all₀ i₀ all i =
@@ -25,14 +23,6 @@ loop-holds c = (omega arith, λ e k x m lm. absurd (omega arith))
 -- src/pair.rt:20:22
 shared-slice-read-all : tie.Need-shared-slice-read-all Inv-loop μ-loop
 shared-slice-read-all c = omega (arith, c .before .loop-test .taken, c .before .before .before .pre)
-
--- src/pair.rt:20:31
-shared-slice-read-all-2 : tie.Need-shared-slice-read-all-2 Inv-loop μ-loop
-shared-slice-read-all-2 c = search needs
-
--- src/pair.rt:21:9
-add-i : tie.Need-add-i Inv-loop μ-loop
-add-i c = search needs
 
 -- src/pair.rt:19:5
 loop-less : tie.Need-loop-less Inv-loop μ-loop
@@ -55,13 +45,4 @@ returns c =
 pub shaded-spec : {M : Type 1} → statement M
 shaded-spec =
     tie.close
-    (tie.spec
-    Inv-loop
-    μ-loop
-    loop-holds
-    shared-slice-read-all
-    shared-slice-read-all-2
-    add-i
-    loop-less
-    loop-again
-    returns)
+    (tie.spec Inv-loop μ-loop loop-holds shared-slice-read-all (λ c. search needs) (λ c. search needs) loop-less loop-again returns)

@@ -7,9 +7,6 @@ use Rattle.plan.specs.CallLaws.{rows-is, length-part, by-none, by-paddin
 use Rattle.plan.proofs.refused.Statement.{statement}
 use Rattle.plan.proofs.refused.Tie as tie
 
-settings-refusal-requires : tie.Need-settings-refusal-requires
-settings-refusal-requires c κs = search needs
-
 returns : tie.Need-returns
 returns c = let A = c .before .before .before .args in by-settings (A .s) (A .part .now) (A .support) (A .rings) _ (c .before .settings-refusal .ensures) (c .if1 .taken)
 
@@ -37,12 +34,4 @@ returns-4 c = let A = c .before .before .before .before .before .before .before 
 pub refused-spec : {M : Type 1} → statement M
 refused-spec =
     tie.close
-    (tie.spec
-    settings-refusal-requires
-    returns
-    length-refusal-requires
-    returns-2
-    mul-padding-set
-    padding-set-requires
-    returns-3
-    returns-4)
+    (tie.spec (λ c κs. search needs) returns length-refusal-requires returns-2 mul-padding-set padding-set-requires returns-3 returns-4)

@@ -4,7 +4,7 @@ use Prim.Native.Nat.{ℕ, suc, _-_, _+_, _*_, _<_}
 use borrow.Rule.Slice.PartMut.{same-len-mid, putMid}
 use lib.ListN.{length}
 use Rattle.pair.specs.PairLaws.{plane-size}
-use Rattle.plan.specs.StackLaws.{layer-room, up-room, ring-room, area-max, lent-low, lent-up, lent-rings, lent-support, cutLow, cutUp, layer-done}
+use Rattle.plan.specs.StackLaws.{layer-room, up-room, ring-room, area-max, lent-low, lent-up, lent-rings, lent-support, cutLow, cutUp, layer-done, above-apart}
 use Rattle.plan.specs.Stacks.{Down}
 use Rattle.image.specs.Rows.{packed, Packs}
 use Rattle.image.specs.Stretches.{mid-put}
@@ -13,243 +13,174 @@ use native.Mathlib.Omega.{arith}
 use borrow.Author.Needs.{needs}
 use Rattle.plan.proofs.stack.layer_at.Statement.{statement}
 use Rattle.plan.proofs.stack.layer_at.Tie as tie
-use Rattle.plan.proofs.stack.layer_at.Reads as reads
-use Rattle.plan.proofs.stack.layer_at.Lts as lts
-use Rattle.pair.proofs.layer.Reads as layer-reads
-use Rattle.plan.proofs.stack.put.Reads as put-reads
 
--- src/stack.rt:42:21
-sub-size : tie.Need-sub-size
-sub-size c = search needs
-
--- src/stack.rt:42:16
+-- src/stack.rt:52:16
 mul-size : tie.Need-mul-size
-mul-size c = omega (arith, plane-size (c .before .before .before .before .args .w) (c .before .before .before .before .args .h) (c .before .before .before .before .args .st) (c .before .before .before .before .pre .0 .0))
+mul-size c = omega (arith, plane-size (c .before .before .before .before .before .before .before .before .before .before .before .args .w) (c .before .before .before .before .before .before .before .before .before .before .before .args .h) (c .before .before .before .before .before .before .before .before .before .before .before .args .rb) (c .before .before .before .before .before .before .before .before .before .before .before .pre .0 .0))
 
--- src/stack.rt:43:16
+-- src/stack.rt:53:16
 mul-area : tie.Need-mul-area
-mul-area c = omega (arith, area-max (c .before .before .before .before .args .w) (c .before .before .before .before .args .h) (c .before .before .before .before .pre .0 .0 .w-max) (c .before .before .before .before .pre .0 .0 .h-max))
+mul-area c = omega (arith, area-max (c .before .before .before .before .before .before .before .before .before .before .before .args .w) (c .before .before .before .before .before .before .before .before .before .before .before .args .h) (c .before .before .before .before .before .before .before .before .before .before .before .pre .0 .0 .sizes .w-max) (c .before .before .before .before .before .before .before .before .before .before .before .pre .0 .0 .sizes .h-max))
 
--- src/stack.rt:44:13
+-- src/stack.rt:54:13
 mul-a : tie.Need-mul-a
 mul-a c =
-    let A = c .before .before .before .before .args in
-    let P = c .before .before .before .before .pre in
-    omega (arith, layer-room (A .w) (A .h) (A .n) (A .h * (A .st - 1)) (A .i) (length (A .part .now)) (plane-size (A .w) (A .h) (A .st) (P .0 .0) .0) (P .1 .0 .part-long) (omega (arith, P .0 .2)))
+    let A = c .before .before .before .before .before .before .before .before .before .before .before .args in
+    let P = c .before .before .before .before .before .before .before .before .before .before .before .pre in
+    omega (arith, layer-room (A .w) (A .h) (A .n) (A .h * A .rb) (A .i) (length (A .part .now)) (plane-size (A .w) (A .h) (A .rb) (P .0 .0) .0) (P .1 .0 .part-long) (omega (arith, P .0 .2)))
 
--- src/stack.rt:45:13
+-- src/stack.rt:55:13
 add-m : tie.Need-add-m
 add-m c =
-    let A = c .before .before .before .before .args in
-    let P = c .before .before .before .before .pre in
-    omega (arith, layer-room (A .w) (A .h) (A .n) (A .h * (A .st - 1)) (A .i) (length (A .part .now)) (plane-size (A .w) (A .h) (A .st) (P .0 .0) .0) (P .1 .0 .part-long) (omega (arith, P .0 .2)))
+    let A = c .before .before .before .before .before .before .before .before .before .before .before .args in
+    let P = c .before .before .before .before .before .before .before .before .before .before .before .pre in
+    omega (arith, layer-room (A .w) (A .h) (A .n) (A .h * A .rb) (A .i) (length (A .part .now)) (plane-size (A .w) (A .h) (A .rb) (P .0 .0) .0) (P .1 .0 .part-long) (omega (arith, P .0 .2)))
 
--- src/stack.rt:46:13
+-- src/stack.rt:56:13
 mul-x : tie.Need-mul-x
 mul-x c =
-    let A = c .before .before .before .before .args in
-    let P = c .before .before .before .before .pre in
-    omega (arith, ring-room (A .w) (A .h) (A .n) (A .h * A .w) (A .i) (length (A .rings .now)) refl (P .1 .0 .rings-long) (P .0 .2), c .before .before .before .before .good .1 .1 .0)
+    let A = c .before .before .before .before .before .before .before .before .before .before .before .args in
+    let P = c .before .before .before .before .before .before .before .before .before .before .before .pre in
+    omega (arith, ring-room (A .w) (A .h) (A .n) (A .h * A .w) (A .i) (length (A .rings .now)) refl (P .1 .0 .rings-long) (P .0 .2), c .before .before .before .before .before .before .before .before .before .before .before .good .1 .1 .0)
 
--- src/stack.rt:48:9
-sub-layer : tie.Need-sub-layer
-sub-layer c = search needs
-
--- src/stack.rt:48:9
-part-layer-start : tie.Need-part-layer-start
-part-layer-start c = search needs
-
--- src/stack.rt:48:9
+-- src/stack.rt:58:9
 part-layer-end : tie.Need-part-layer-end
 part-layer-end c =
-    let A = c .before .before .before .before .args in
-    let P = c .before .before .before .before .pre in
-    layer-room (A .w) (A .h) (A .n) (A .h * (A .st - 1)) (A .i) (length (A .part .now)) (plane-size (A .w) (A .h) (A .st) (P .0 .0) .0) (P .1 .0 .part-long) (omega (arith, P .0 .2))
+    let A = c .before .before .before .before .before .before .before .before .before .before .before .args in
+    let P = c .before .before .before .before .before .before .before .before .before .before .before .pre in
+    layer-room (A .w) (A .h) (A .n) (A .h * A .rb) (A .i) (length (A .part .now)) (plane-size (A .w) (A .h) (A .rb) (P .0 .0) .0) (P .1 .0 .part-long) (omega (arith, P .0 .2))
 
--- src/stack.rt:49:18
+-- src/stack.rt:59:18
 add-layer : tie.Need-add-layer
 add-layer c =
-    let A = c .before .before .before .before .before .args in
-    let P = c .before .before .before .before .before .pre in
-    omega (arith, up-room (A .w) (A .h) (A .n) (A .h * (A .st - 1)) (A .i) (length (A .part .now)) (plane-size (A .w) (A .h) (A .st) (P .0 .0) .0) (P .1 .0 .part-long) (P .0 .2))
+    let A = c .before .before .before .before .before .before .before .before .before .before .before .before .args in
+    let P = c .before .before .before .before .before .before .before .before .before .before .before .before .pre in
+    omega (arith, up-room (A .w) (A .h) (A .n) (A .h * A .rb) (A .i) (length (A .part .now)) (plane-size (A .w) (A .h) (A .rb) (P .0 .0) .0) (P .1 .0 .part-long) (P .0 .2))
 
--- src/stack.rt:49:9
-sub-layer-2 : tie.Need-sub-layer-2
-sub-layer-2 c = search needs
-
--- src/stack.rt:49:9
-part-layer-start-2 : tie.Need-part-layer-start-2
-part-layer-start-2 c = search needs
-
--- src/stack.rt:49:9
+-- src/stack.rt:59:9
 part-layer-end-2 : tie.Need-part-layer-end-2
 part-layer-end-2 c =
-    let A = c .before .before .before .before .before .args in
-    let P = c .before .before .before .before .before .pre in
-    up-room (A .w) (A .h) (A .n) (A .h * (A .st - 1)) (A .i) (length (A .part .now)) (plane-size (A .w) (A .h) (A .st) (P .0 .0) .0) (P .1 .0 .part-long) (P .0 .2)
+    let A = c .before .before .before .before .before .before .before .before .before .before .before .before .args in
+    let P = c .before .before .before .before .before .before .before .before .before .before .before .before .pre in
+    up-room (A .w) (A .h) (A .n) (A .h * A .rb) (A .i) (length (A .part .now)) (plane-size (A .w) (A .h) (A .rb) (P .0 .0) .0) (P .1 .0 .part-long) (P .0 .2)
 
--- src/stack.rt:51:9
-sub-layer-3 : tie.Need-sub-layer-3
-sub-layer-3 c = search needs
-
--- src/stack.rt:51:9
-part-layer-start-3 : tie.Need-part-layer-start-3
-part-layer-start-3 c = search needs
-
--- src/stack.rt:51:9
+-- src/stack.rt:61:9
 part-layer-end-3 : tie.Need-part-layer-end-3
 part-layer-end-3 c =
-    let A = c .before .before .before .before .before .before .before .args in
-    let P = c .before .before .before .before .before .before .before .pre in
-    layer-room (A .w) (A .h) (A .n) (A .h * (A .st - 1)) (A .i) (length (A .support .now)) (plane-size (A .w) (A .h) (A .st) (P .0 .0) .0) (P .1 .0 .support-long) (omega (arith, P .0 .2))
+    let A = c .before .before .before .before .before .before .before .before .before .before .before .before .before .before .args in
+    let P = c .before .before .before .before .before .before .before .before .before .before .before .before .before .before .pre in
+    layer-room (A .w) (A .h) (A .n) (A .h * A .rb) (A .i) (length (A .support .now)) (plane-size (A .w) (A .h) (A .rb) (P .0 .0) .0) (P .1 .0 .support-long) (omega (arith, P .0 .2))
 
--- src/stack.rt:52:23
+-- src/stack.rt:62:23
 add-layer-2 : tie.Need-add-layer-2
 add-layer-2 c =
-    let A = c .before .before .before .before .before .before .before .before .args in
-    let P = c .before .before .before .before .before .before .before .before .pre in
-    omega (arith, ring-room (A .w) (A .h) (A .n) (A .h * A .w) (A .i) (length (A .rings .now)) refl (P .1 .0 .rings-long) (P .0 .2), c .before .before .before .before .before .before .before .before .good .1 .1 .0)
+    let A = c .before .before .before .before .before .before .before .before .before .before .before .before .before .before .before .args in
+    let P = c .before .before .before .before .before .before .before .before .before .before .before .before .before .before .before .pre in
+    omega (arith, ring-room (A .w) (A .h) (A .n) (A .h * A .w) (A .i) (length (A .rings .now)) refl (P .1 .0 .rings-long) (P .0 .2), c .before .before .before .before .before .before .before .before .before .before .before .before .before .before .before .good .1 .1 .0)
 
--- src/stack.rt:52:9
+-- src/stack.rt:62:9
 mul-layer : tie.Need-mul-layer
 mul-layer c =
-    let A = c .before .before .before .before .before .before .before .before .args in
-    let P = c .before .before .before .before .before .before .before .before .pre in
-    omega (arith, ring-room (A .w) (A .h) (A .n) (A .h * A .w) (A .i) (length (A .rings .now)) refl (P .1 .0 .rings-long) (P .0 .2), c .before .before .before .before .before .before .before .before .good .1 .1 .0)
+    let A = c .before .before .before .before .before .before .before .before .before .before .before .before .before .before .before .args in
+    let P = c .before .before .before .before .before .before .before .before .before .before .before .before .before .before .before .pre in
+    omega (arith, ring-room (A .w) (A .h) (A .n) (A .h * A .w) (A .i) (length (A .rings .now)) refl (P .1 .0 .rings-long) (P .0 .2), c .before .before .before .before .before .before .before .before .before .before .before .before .before .before .before .good .1 .1 .0)
 
--- src/stack.rt:52:9
-sub-layer-4 : tie.Need-sub-layer-4
-sub-layer-4 c = search needs
-
--- src/stack.rt:52:9
-part-layer-start-4 : tie.Need-part-layer-start-4
-part-layer-start-4 c = search needs
-
--- src/stack.rt:52:9
+-- src/stack.rt:62:9
 part-layer-end-4 : tie.Need-part-layer-end-4
 part-layer-end-4 c =
-    let A = c .before .before .before .before .before .before .before .before .args in
-    let P = c .before .before .before .before .before .before .before .before .pre in
+    let A = c .before .before .before .before .before .before .before .before .before .before .before .before .before .before .before .args in
+    let P = c .before .before .before .before .before .before .before .before .before .before .before .before .before .before .before .pre in
     ring-room (A .w) (A .h) (A .n) (A .h * A .w) (A .i) (length (A .rings .now)) refl (P .1 .0 .rings-long) (P .0 .2)
 
--- src/stack.rt:47:5
+-- src/stack.rt:57:5
 layer-requires : tie.Need-layer-requires
 layer-requires c κs =
-    let A = c .before .before .before .before .before .before .before .before .before .args in
-    let P = c .before .before .before .before .before .before .before .before .before .pre in
+    let A = c .before .before .before .before .before .before .before .before .before .before .before .before .before .before .before .before .before .before .before .before .before .before .before .args in
+    let P = c .before .before .before .before .before .before .before .before .before .before .before .before .before .before .before .before .before .before .before .before .before .before .before .pre in
     let B = P .1 .0 in
-    let es = plane-size (A .w) (A .h) (A .st) (P .0 .0) .0 in
-    let size = A .h * (A .st - 1) in (
-      (P .0 .0, P .0 .1),
+    let es = plane-size (A .w) (A .h) (A .rb) (P .0 .0) .0 in
+    let size = A .h * A .rb in (
+      (P .0 .0 .sizes, P .0 .0 .bytes, P .0 .1),
       (
-        lent-low (A .w) (A .h) (A .n) size (A .i) (A .part .now) es (B .part-long) (B .clean) (P .0 .2),
-        lent-up (A .w) (A .h) (A .n) size (A .i) (A .part .now) es (B .part-long) (B .clean) (P .0 .2),
-        P .1 .1 .above-is .clean,
-        lent-support (A .w) (A .h) (A .n) size (A .i) (A .support .now) es (B .support-long) (omega (arith, P .0 .2)),
-        lent-rings (A .w) (A .h) (A .n) (A .i) (A .rings .now) (B .rings-long) (P .0 .2),
+        (
+          lent-low (A .w) (A .h) (A .n) size (A .i) (A .part .now) es (B .part-long) (B .clean) (P .0 .2),
+          lent-up (A .w) (A .h) (A .n) size (A .i) (A .part .now) es (B .part-long) (B .clean) (P .0 .2),
+          P .1 .1 .0 .above-is .clean,
+          lent-support (A .w) (A .h) (A .n) size (A .i) (A .support .now) es (B .support-long) (omega (arith, P .0 .2)),
+          lent-rings (A .w) (A .h) (A .n) (A .i) (A .rings .now) (B .rings-long) (P .0 .2),
+        ),
+        (above-apart (A .w) (A .h) (A .n) (A .q .0) size (A .i) (P .0 .0 .sizes .w-min) (A .part .now) (A .support .now) (A .rings .now) (A .above .now) es (B .part-long) (P .0 .2) (P .1 .1 .0), P .1 .1 .1),
       ),
     )
 
--- src/stack.rt:58:9
-sub-put : tie.Need-sub-put
-sub-put c = search needs
-
--- src/stack.rt:58:9
-part-put-start : tie.Need-part-put-start
-part-put-start c = search needs
-
--- src/stack.rt:58:9
+-- src/stack.rt:75:9
 part-put-end : tie.Need-part-put-end
 part-put-end c =
-    let A = c .before .before .before .before .before .before .before .before .before .before .before .before .before .before .before .args in
-    let P = c .before .before .before .before .before .before .before .before .before .before .before .before .before .before .before .pre in
+    let A = c .before .before .before .before .before .before .before .before .before .before .before .before .before .before .before .before .before .before .before .before .before .before .before .before .before .before .before .before .before .before .before .before .before .before .before .before .before .before .before .before .before .before .before .args in
+    let P = c .before .before .before .before .before .before .before .before .before .before .before .before .before .before .before .before .before .before .before .before .before .before .before .before .before .before .before .before .before .before .before .before .before .before .before .before .before .before .before .before .before .before .before .pre in
     let B = P .1 .0 in
-    let L = c .before .before .before .before .before .layer in
-    let size = A .h * (A .st - 1) in
-    let es = plane-size (A .w) (A .h) (A .st) (P .0 .0) .0 in
+    let L = c .before .before .before .before .before .before .before .before .before .before .before .before .before .before .before .before .before .before .before .layer in
+    let size = A .h * A .rb in
+    let es = plane-size (A .w) (A .h) (A .rb) (P .0 .0) .0 in
     let room = layer-room (A .w) (A .h) (A .n) size (A .i) (length (A .support .now)) es (B .support-long) (omega (arith, P .0 .2)) in
     let lent = lent-support (A .w) (A .h) (A .n) size (A .i) (A .support .now) es (B .support-long) (omega (arith, P .0 .2)) in
     let X = L .last .1 .1 .1 .0 in
     omega (arith, room, same-len-mid (A .i * size) (A .i * size + size - A .i * size) (A .support .now) X (L .kept .1 .1 .1 .0))
 
--- src/stack.rt:58:5
+-- src/stack.rt:75:5
 put-requires : tie.Need-put-requires
 put-requires c κs =
-    let A = c .before .before .before .before .before .before .before .before .before .before .before .before .before .before .before .before .before .args in
-    let P = c .before .before .before .before .before .before .before .before .before .before .before .before .before .before .before .before .before .pre in
+    let A = c .before .before .before .before .before .before .before .before .before .before .before .before .before .before .before .before .before .before .before .before .before .before .before .before .before .before .before .before .before .before .before .before .before .before .before .before .before .before .before .before .before .before .before .before .before .args in
+    let P = c .before .before .before .before .before .before .before .before .before .before .before .before .before .before .before .before .before .before .before .before .before .before .before .before .before .before .before .before .before .before .before .before .before .before .before .before .before .before .before .before .before .before .before .before .before .pre in
     let B = P .1 .0 in
-    let L = c .before .before .before .before .before .before .before .layer in
-    let size = A .h * (A .st - 1) in
-    let es = plane-size (A .w) (A .h) (A .st) (P .0 .0) .0 in
+    let L = c .before .before .before .before .before .before .before .before .before .before .before .before .before .before .before .before .before .before .before .before .before .layer in
+    let size = A .h * A .rb in
+    let es = plane-size (A .w) (A .h) (A .rb) (P .0 .0) .0 in
     let room = layer-room (A .w) (A .h) (A .n) size (A .i) (length (A .support .now)) es (B .support-long) (omega (arith, P .0 .2)) in
     let lent = lent-support (A .w) (A .h) (A .n) size (A .i) (A .support .now) es (B .support-long) (omega (arith, P .0 .2)) in
     let X = L .last .1 .1 .1 .0 in
-    P .1 .1 .above-is .clean .long ∙ sym (ap length (mid-put (A .i * size) (A .i * size + size - A .i * size) (A .support .now) X (omega (arith, room)) (L .kept .1 .1 .1 .0 ∙ lent ∙ sym es ∙ omega arith)) ∙ L .kept .1 .1 .1 .0 ∙ lent)
+    P .1 .1 .0 .above-is .clean .long ∙ sym (ap length (mid-put (A .i * size) (A .i * size + size - A .i * size) (A .support .now) X (omega (arith, room)) (L .kept .1 .1 .1 .0 ∙ lent ∙ sym es ∙ omega arith)) ∙ L .kept .1 .1 .1 .0 ∙ lent)
 
--- src/stack.rt:25:1
+-- src/stack.rt:26:1
 same-length : tie.Need-same-length
-same-length c = same-len-mid (c .before .before .before .before .before .before .before .before .before .before .before .before .before .before .before .before .before .before .before .before .args .i * (c .before .before .before .before .before .before .before .before .before .before .before .before .before .before .before .before .before .before .before .before .args .h * (c .before .before .before .before .before .before .before .before .before .before .before .before .before .before .before .before .before .before .before .before .args .st - 1))) (c .before .before .before .before .before .before .before .before .before .before .before .before .before .before .before .before .before .before .before .before .args .i * (c .before .before .before .before .before .before .before .before .before .before .before .before .before .before .before .before .before .before .before .before .args .h * (c .before .before .before .before .before .before .before .before .before .before .before .before .before .before .before .before .before .before .before .before .args .st - 1)) + c .before .before .before .before .before .before .before .before .before .before .before .before .before .before .before .before .before .before .before .before .args .h * (c .before .before .before .before .before .before .before .before .before .before .before .before .before .before .before .before .before .before .before .before .args .st - 1) - c .before .before .before .before .before .before .before .before .before .before .before .before .before .before .before .before .before .before .before .before .args .i * (c .before .before .before .before .before .before .before .before .before .before .before .before .before .before .before .before .before .before .before .before .args .h * (c .before .before .before .before .before .before .before .before .before .before .before .before .before .before .before .before .before .before .before .before .args .st - 1))) (c .before .before .before .before .before .before .before .before .before .before .before .before .before .before .before .before .before .before .before .before .args .support .now) (c .before .before .before .before .before .before .before .before .before .before .layer .last .1 .1 .1 .0) (c .before .before .before .before .before .before .before .before .before .before .layer .kept .1 .1 .1 .0)
+same-length c = same-len-mid (c .before .before .before .before .before .before .before .before .before .before .before .before .before .before .before .before .before .before .before .before .before .before .before .before .before .before .before .before .before .before .before .before .before .before .before .before .before .before .before .before .before .before .before .before .before .before .before .before .args .i * (c .before .before .before .before .before .before .before .before .before .before .before .before .before .before .before .before .before .before .before .before .before .before .before .before .before .before .before .before .before .before .before .before .before .before .before .before .before .before .before .before .before .before .before .before .before .before .before .before .args .h * c .before .before .before .before .before .before .before .before .before .before .before .before .before .before .before .before .before .before .before .before .before .before .before .before .before .before .before .before .before .before .before .before .before .before .before .before .before .before .before .before .before .before .before .before .before .before .before .before .args .rb)) (c .before .before .before .before .before .before .before .before .before .before .before .before .before .before .before .before .before .before .before .before .before .before .before .before .before .before .before .before .before .before .before .before .before .before .before .before .before .before .before .before .before .before .before .before .before .before .before .before .args .i * (c .before .before .before .before .before .before .before .before .before .before .before .before .before .before .before .before .before .before .before .before .before .before .before .before .before .before .before .before .before .before .before .before .before .before .before .before .before .before .before .before .before .before .before .before .before .before .before .before .args .h * c .before .before .before .before .before .before .before .before .before .before .before .before .before .before .before .before .before .before .before .before .before .before .before .before .before .before .before .before .before .before .before .before .before .before .before .before .before .before .before .before .before .before .before .before .before .before .before .before .args .rb) + c .before .before .before .before .before .before .before .before .before .before .before .before .before .before .before .before .before .before .before .before .before .before .before .before .before .before .before .before .before .before .before .before .before .before .before .before .before .before .before .before .before .before .before .before .before .before .before .before .args .h * c .before .before .before .before .before .before .before .before .before .before .before .before .before .before .before .before .before .before .before .before .before .before .before .before .before .before .before .before .before .before .before .before .before .before .before .before .before .before .before .before .before .before .before .before .before .before .before .before .args .rb - c .before .before .before .before .before .before .before .before .before .before .before .before .before .before .before .before .before .before .before .before .before .before .before .before .before .before .before .before .before .before .before .before .before .before .before .before .before .before .before .before .before .before .before .before .before .before .before .before .args .i * (c .before .before .before .before .before .before .before .before .before .before .before .before .before .before .before .before .before .before .before .before .before .before .before .before .before .before .before .before .before .before .before .before .before .before .before .before .before .before .before .before .before .before .before .before .before .before .before .before .args .h * c .before .before .before .before .before .before .before .before .before .before .before .before .before .before .before .before .before .before .before .before .before .before .before .before .before .before .before .before .before .before .before .before .before .before .before .before .before .before .before .before .before .before .before .before .before .before .before .before .args .rb)) (c .before .before .before .before .before .before .before .before .before .before .before .before .before .before .before .before .before .before .before .before .before .before .before .before .before .before .before .before .before .before .before .before .before .before .before .before .before .before .before .before .before .before .before .before .before .before .before .before .args .support .now) (c .before .before .before .before .before .before .before .before .before .before .before .before .before .before .before .before .before .before .before .before .before .before .before .before .layer .last .1 .1 .1 .0) (c .before .before .before .before .before .before .before .before .before .before .before .before .before .before .before .before .before .before .before .before .before .before .before .before .layer .kept .1 .1 .1 .0)
 
--- src/stack.rt:25:1
+-- src/stack.rt:26:1
 same-length-2 : tie.Need-same-length-2
-same-length-2 c = same-len-mid (c .before .before .before .before .before .before .before .before .before .before .before .before .before .before .before .before .before .before .before .before .args .i * (c .before .before .before .before .before .before .before .before .before .before .before .before .before .before .before .before .before .before .before .before .args .h * c .before .before .before .before .before .before .before .before .before .before .before .before .before .before .before .before .before .before .before .before .args .w)) (c .before .before .before .before .before .before .before .before .before .before .before .before .before .before .before .before .before .before .before .before .args .i * (c .before .before .before .before .before .before .before .before .before .before .before .before .before .before .before .before .before .before .before .before .args .h * c .before .before .before .before .before .before .before .before .before .before .before .before .before .before .before .before .before .before .before .before .args .w) + c .before .before .before .before .before .before .before .before .before .before .before .before .before .before .before .before .before .before .before .before .args .h * c .before .before .before .before .before .before .before .before .before .before .before .before .before .before .before .before .before .before .before .before .args .w - c .before .before .before .before .before .before .before .before .before .before .before .before .before .before .before .before .before .before .before .before .args .i * (c .before .before .before .before .before .before .before .before .before .before .before .before .before .before .before .before .before .before .before .before .args .h * c .before .before .before .before .before .before .before .before .before .before .before .before .before .before .before .before .before .before .before .before .args .w)) (c .before .before .before .before .before .before .before .before .before .before .before .before .before .before .before .before .before .before .before .before .args .rings .now) (c .before .before .before .before .before .before .before .before .before .before .layer .last .1 .1 .1 .1 .0) (c .before .before .before .before .before .before .before .before .before .before .layer .kept .1 .1 .1 .1 .0)
+same-length-2 c = same-len-mid (c .before .before .before .before .before .before .before .before .before .before .before .before .before .before .before .before .before .before .before .before .before .before .before .before .before .before .before .before .before .before .before .before .before .before .before .before .before .before .before .before .before .before .before .before .before .before .before .before .args .i * (c .before .before .before .before .before .before .before .before .before .before .before .before .before .before .before .before .before .before .before .before .before .before .before .before .before .before .before .before .before .before .before .before .before .before .before .before .before .before .before .before .before .before .before .before .before .before .before .before .args .h * c .before .before .before .before .before .before .before .before .before .before .before .before .before .before .before .before .before .before .before .before .before .before .before .before .before .before .before .before .before .before .before .before .before .before .before .before .before .before .before .before .before .before .before .before .before .before .before .before .args .w)) (c .before .before .before .before .before .before .before .before .before .before .before .before .before .before .before .before .before .before .before .before .before .before .before .before .before .before .before .before .before .before .before .before .before .before .before .before .before .before .before .before .before .before .before .before .before .before .before .before .args .i * (c .before .before .before .before .before .before .before .before .before .before .before .before .before .before .before .before .before .before .before .before .before .before .before .before .before .before .before .before .before .before .before .before .before .before .before .before .before .before .before .before .before .before .before .before .before .before .before .before .args .h * c .before .before .before .before .before .before .before .before .before .before .before .before .before .before .before .before .before .before .before .before .before .before .before .before .before .before .before .before .before .before .before .before .before .before .before .before .before .before .before .before .before .before .before .before .before .before .before .before .args .w) + c .before .before .before .before .before .before .before .before .before .before .before .before .before .before .before .before .before .before .before .before .before .before .before .before .before .before .before .before .before .before .before .before .before .before .before .before .before .before .before .before .before .before .before .before .before .before .before .before .args .h * c .before .before .before .before .before .before .before .before .before .before .before .before .before .before .before .before .before .before .before .before .before .before .before .before .before .before .before .before .before .before .before .before .before .before .before .before .before .before .before .before .before .before .before .before .before .before .before .before .args .w - c .before .before .before .before .before .before .before .before .before .before .before .before .before .before .before .before .before .before .before .before .before .before .before .before .before .before .before .before .before .before .before .before .before .before .before .before .before .before .before .before .before .before .before .before .before .before .before .before .args .i * (c .before .before .before .before .before .before .before .before .before .before .before .before .before .before .before .before .before .before .before .before .before .before .before .before .before .before .before .before .before .before .before .before .before .before .before .before .before .before .before .before .before .before .before .before .before .before .before .before .args .h * c .before .before .before .before .before .before .before .before .before .before .before .before .before .before .before .before .before .before .before .before .before .before .before .before .before .before .before .before .before .before .before .before .before .before .before .before .before .before .before .before .before .before .before .before .before .before .before .before .args .w)) (c .before .before .before .before .before .before .before .before .before .before .before .before .before .before .before .before .before .before .before .before .before .before .before .before .before .before .before .before .before .before .before .before .before .before .before .before .before .before .before .before .before .before .before .before .before .before .before .before .args .rings .now) (c .before .before .before .before .before .before .before .before .before .before .before .before .before .before .before .before .before .before .before .before .before .before .before .before .layer .last .1 .1 .1 .1 .0) (c .before .before .before .before .before .before .before .before .before .before .before .before .before .before .before .before .before .before .before .before .before .before .before .before .layer .kept .1 .1 .1 .1 .0)
 
--- src/stack.rt:25:1
+-- src/stack.rt:26:1
 same-length-3 : tie.Need-same-length-3
 same-length-3 c = c .before .before .put .kept .1 .0
 
--- src/stack.rt:25:1
+-- src/stack.rt:26:1
 returns : tie.Need-returns
 returns c =
-    let A = c .before .before .before .before .before .before .before .before .before .before .before .before .before .before .before .before .before .before .before .before .args in
-    let P = c .before .before .before .before .before .before .before .before .before .before .before .before .before .before .before .before .before .before .before .before .pre in
+    let A = c .before .before .before .before .before .before .before .before .before .before .before .before .before .before .before .before .before .before .before .before .before .before .before .before .before .before .before .before .before .before .before .before .before .before .before .before .before .before .before .before .before .before .before .before .before .before .before .before .args in
+    let P = c .before .before .before .before .before .before .before .before .before .before .before .before .before .before .before .before .before .before .before .before .before .before .before .before .before .before .before .before .before .before .before .before .before .before .before .before .before .before .before .before .before .before .before .before .before .before .before .before .pre in
     let B = P .1 .0 in
-    let L = c .before .before .before .before .before .before .before .before .before .before .layer in
-    let size = A .h * (A .st - 1) in
-    let es = plane-size (A .w) (A .h) (A .st) (P .0 .0) .0 in
+    let L = c .before .before .before .before .before .before .before .before .before .before .before .before .before .before .before .before .before .before .before .before .before .before .before .before .layer in
+    let size = A .h * A .rb in
+    let es = plane-size (A .w) (A .h) (A .rb) (P .0 .0) .0 in
     let room = layer-room (A .w) (A .h) (A .n) size (A .i) (length (A .support .now)) es (B .support-long) (omega (arith, P .0 .2)) in
     let lent = lent-support (A .w) (A .h) (A .n) size (A .i) (A .support .now) es (B .support-long) (omega (arith, P .0 .2)) in
     let X = L .last .1 .1 .1 .0 in
     let T = c .before .before .put in
     let above′ = T .last .1 .0 in
     let e : above′ ≡ X = T .ensures ∙ mid-put (A .i * size) (A .i * size + size - A .i * size) (A .support .now) X (omega (arith, room)) (L .kept .1 .1 .1 .0 ∙ lent ∙ sym es ∙ omega arith) in
-    let rings′ = putMid (A .i * (A .h * A .w)) (A .i * (A .h * A .w) + A .h * A .w - A .i * (A .h * A .w)) (A .rings .now) (L .last .1 .1 .1 .1 .0) in
-    subst (λ (ys : List ℕ). Down (A .w) (A .h) (A .n) (A .q) (A .i) (A .part .now) (putMid (A .i * size) (A .i * size + size - A .i * size) (A .support .now) ys) rings′ above′) e
-    (layer-done (A .w) (A .h) (A .n) (A .q) (P .0 .0 .w-min) (A .part .now) (B .part-long) (A .i) (A .support .now) (A .rings .now) (A .above .now) above′ (L .last .1 .1 .1 .1 .0) (P .0 .2) (B .support-long) (B .rings-long) (P .1 .1)
-    size es (T .kept .1 .0 ∙ P .1 .1 .above-is .clean .long ∙ sym lent) (L .kept .1 .1 .1 .1 .0) (L .ensures .0) (λ b. c .slice-known6 .given b .fits)
-    (subst (Packs (A .w) (A .h) (pairSupport (A .w) (A .h) (A .q) (packed (A .w) (cutLow size (A .i) (A .part .now))) (packed (A .w) (cutUp size (A .i) (A .part .now))) (packed (A .w) (A .above .now)))) (sym e) (L .ensures .1)))
+    let rings′ = putMid (A .i * (A .h * A .w)) (A .i * (A .h * A .w) + A .h * A .w - A .i * (A .h * A .w)) (A .rings .now) (L .last .1 .1 .1 .1 .0) in (
+      subst (λ (ys : List ℕ). Down (A .w) (A .h) (A .n) (A .q .0) (A .i) (A .part .now) (putMid (A .i * size) (A .i * size + size - A .i * size) (A .support .now) ys) rings′ above′) e
+          (layer-done (A .w) (A .h) (A .n) (A .q .0) (P .0 .0 .sizes .w-min) (A .part .now) (B .part-long) (A .i) (A .support .now) (A .rings .now) (A .above .now) above′ (L .last .1 .1 .1 .1 .0) (P .0 .2) (B .support-long) (B .rings-long) (P .1 .1 .0)
+          size es (T .kept .1 .0 ∙ P .1 .1 .0 .above-is .clean .long ∙ sym lent) (L .kept .1 .1 .1 .1 .0) (L .ensures .0) (λ b. c .slice-known20 .given b .fits)
+          (subst (Packs (A .w) (A .h) (pairSupport (A .w) (A .h) (A .q .0) (packed (A .w) (cutLow size (A .i) (A .part .now))) (packed (A .w) (cutUp size (A .i) (A .part .now))) (packed (A .w) (A .above .now)))) (sym e) (L .ensures .1 .0))),
+      L .ensures .1 .1,
+    )
 
 pub layer-at-spec : {M : Type 1} → statement M
 layer-at-spec =
     tie.close
-    (tie.spec
-    sub-size
-    mul-size
-    mul-area
-    mul-a
-    add-m
-    mul-x
-    sub-layer
-    part-layer-start
-    part-layer-end
-    add-layer
-    sub-layer-2
-    part-layer-start-2
-    part-layer-end-2
-    sub-layer-3
-    part-layer-start-3
-    part-layer-end-3
-    add-layer-2
-    mul-layer
-    sub-layer-4
-    part-layer-start-4
-    part-layer-end-4
-    layer-requires
-    sub-put
-    part-put-start
-    part-put-end
-    put-requires
-    same-length
-    same-length-2
-    same-length-3
-    returns)
+    (tie.spec mul-size mul-area mul-a add-m mul-x (λ c. search needs) (λ c. search needs) part-layer-end add-layer (λ c. search needs)
+    (λ c. search needs) part-layer-end-2 (λ c. search needs) (λ c. search needs) part-layer-end-3 add-layer-2 mul-layer (λ c. search needs)
+    (λ c. search needs) part-layer-end-4 layer-requires (λ c. search needs) (λ c. search needs) part-put-end put-requires same-length
+    same-length-2 same-length-3 (λ c. search needs) (λ c. search needs) (λ c. search needs) (λ c. search needs) (λ c. search needs)
+    (λ c. search needs) (λ c. search needs) returns)

@@ -7,8 +7,6 @@ use native.Mathlib.Omega.{arith}
 use borrow.Author.Needs.{needs}
 use Rattle.plan.proofs.stack.put.Statement.{statement}
 use Rattle.plan.proofs.stack.put.Tie as tie
-use Rattle.plan.proofs.stack.put.Reads as reads
-use Rattle.plan.proofs.stack.put.Lts as lts
 
 abbrev Inv-loop : tie.InvT-loop
 Inv-loop from to₀ i₀ to i =
@@ -21,17 +19,9 @@ abbrev μ-loop : tie.MeasureT-loop
 loop-holds : tie.Need-loop-holds Inv-loop μ-loop
 loop-holds c = (refl, omega arith, λ k x. absurd (omega arith))
 
--- src/stack.rt:19:17
-shared-slice-read-to : tie.Need-shared-slice-read-to Inv-loop μ-loop
-shared-slice-read-to c = search needs
-
 -- src/stack.rt:19:9
 slice-write-to : tie.Need-slice-write-to Inv-loop μ-loop
 slice-write-to c = omega (arith, c .before .loop-test .taken, c .before .before .loop .inv .0, c .before .before .before .pre)
-
--- src/stack.rt:20:9
-add-i : tie.Need-add-i Inv-loop μ-loop
-add-i c = search needs
 
 -- src/stack.rt:18:5
 loop-less : tie.Need-loop-less Inv-loop μ-loop
@@ -57,14 +47,4 @@ returns c =
 pub put-spec : {M : Type 1} → statement M
 put-spec =
     tie.close
-    (tie.spec
-    Inv-loop
-    μ-loop
-    loop-holds
-    shared-slice-read-to
-    slice-write-to
-    add-i
-    loop-less
-    loop-again
-    same-length
-    returns)
+    (tie.spec Inv-loop μ-loop loop-holds (λ c. search needs) slice-write-to (λ c. search needs) loop-less loop-again same-length returns)

@@ -11,83 +11,54 @@ use native.Mathlib.Omega.{arith}
 use borrow.Author.Needs.{needs}
 use Rattle.plan.proofs.stack.top.Statement.{statement}
 use Rattle.plan.proofs.stack.top.Tie as tie
-use Rattle.plan.proofs.stack.top.Reads as reads
-use Rattle.plan.proofs.stack.top.Lts as lts
-use Rattle.plan.proofs.stack.put.Reads as put-reads
 
--- src/stack.rt:91:21
-sub-size : tie.Need-sub-size
-sub-size c = search needs
-
--- src/stack.rt:91:16
+-- src/stack.rt:135:16
 mul-size : tie.Need-mul-size
-mul-size c = omega (arith, plane-size (c .before .before .args .w) (c .before .before .args .h) (c .before .before .args .st) (c .before .before .pre .0 .0))
+mul-size c = omega (arith, plane-size (c .before .before .args .w) (c .before .before .args .h) (c .before .before .args .rb) (c .before .before .pre .0 .0))
 
--- src/stack.rt:92:14
-sub-a : tie.Need-sub-a
-sub-a c = search needs
-
--- src/stack.rt:92:13
+-- src/stack.rt:136:13
 mul-a : tie.Need-mul-a
 mul-a c =
     let A = c .before .before .args in
     let P = c .before .before .pre in
-    omega (arith, layer-room (A .w) (A .h) (A .n) (A .h * (A .st - 1)) (A .n - 1) (length (A .support .now)) (plane-size (A .w) (A .h) (A .st) (P .0 .0) .0) (P .1 .0) (omega (arith, P .0 .1)), c .before .before .good .0)
+    omega (arith, layer-room (A .w) (A .h) (A .n) (A .h * A .rb) (A .n - 1) (length (A .support .now)) (plane-size (A .w) (A .h) (A .rb) (P .0 .0) .0) (P .1 .0) (omega (arith, P .0 .1)), c .before .before .good .0)
 
--- src/stack.rt:93:32
+-- src/stack.rt:137:32
 add-put : tie.Need-add-put
 add-put c =
     let A = c .before .before .args in
     let P = c .before .before .pre in
-    omega (arith, layer-room (A .w) (A .h) (A .n) (A .h * (A .st - 1)) (A .n - 1) (length (A .support .now)) (plane-size (A .w) (A .h) (A .st) (P .0 .0) .0) (P .1 .0) (omega (arith, P .0 .1)), c .before .before .good .0)
+    omega (arith, layer-room (A .w) (A .h) (A .n) (A .h * A .rb) (A .n - 1) (length (A .support .now)) (plane-size (A .w) (A .h) (A .rb) (P .0 .0) .0) (P .1 .0) (omega (arith, P .0 .1)), c .before .before .good .0)
 
--- src/stack.rt:93:16
-sub-put : tie.Need-sub-put
-sub-put c = search needs
-
--- src/stack.rt:93:16
-part-put-start : tie.Need-part-put-start
-part-put-start c = search needs
-
--- src/stack.rt:93:16
+-- src/stack.rt:137:16
 part-put-end : tie.Need-part-put-end
 part-put-end c =
     let A = c .before .before .args in
     let P = c .before .before .pre in
-    layer-room (A .w) (A .h) (A .n) (A .h * (A .st - 1)) (A .n - 1) (length (A .support .now)) (plane-size (A .w) (A .h) (A .st) (P .0 .0) .0) (P .1 .0) (omega (arith, P .0 .1))
+    layer-room (A .w) (A .h) (A .n) (A .h * A .rb) (A .n - 1) (length (A .support .now)) (plane-size (A .w) (A .h) (A .rb) (P .0 .0) .0) (P .1 .0) (omega (arith, P .0 .1))
 
--- src/stack.rt:93:5
+-- src/stack.rt:137:5
 put-requires : tie.Need-put-requires
 put-requires c κs =
     let A = c .before .before .before .args in
     let P = c .before .before .before .pre in
-    lent-support (A .w) (A .h) (A .n) (A .h * (A .st - 1)) (A .n - 1) (A .support .now) (plane-size (A .w) (A .h) (A .st) (P .0 .0) .0) (P .1 .0) (omega (arith, P .0 .1)) ∙ sym (P .1 .1 .clean .long)
+    lent-support (A .w) (A .h) (A .n) (A .h * A .rb) (A .n - 1) (A .support .now) (plane-size (A .w) (A .h) (A .rb) (P .0 .0) .0) (P .1 .0) (omega (arith, P .0 .1)) ∙ sym (P .1 .1 .clean .long)
 
--- src/stack.rt:86:1
+-- src/stack.rt:130:1
 same-length : tie.Need-same-length
-same-length c = same-len-mid ((c .before .before .before .before .before .before .args .n - 1) * (c .before .before .before .before .before .before .args .h * (c .before .before .before .before .before .before .args .st - 1))) ((c .before .before .before .before .before .before .args .n - 1) * (c .before .before .before .before .before .before .args .h * (c .before .before .before .before .before .before .args .st - 1)) + c .before .before .before .before .before .before .args .h * (c .before .before .before .before .before .before .args .st - 1) - (c .before .before .before .before .before .before .args .n - 1) * (c .before .before .before .before .before .before .args .h * (c .before .before .before .before .before .before .args .st - 1))) (c .before .before .before .before .before .before .args .support .now) (c .before .before .put .last .1 .0) (c .before .before .put .kept .1 .0)
+same-length c = same-len-mid ((c .before .before .before .before .before .before .args .n - 1) * (c .before .before .before .before .before .before .args .h * c .before .before .before .before .before .before .args .rb)) ((c .before .before .before .before .before .before .args .n - 1) * (c .before .before .before .before .before .before .args .h * c .before .before .before .before .before .before .args .rb) + c .before .before .before .before .before .before .args .h * c .before .before .before .before .before .before .args .rb - (c .before .before .before .before .before .before .args .n - 1) * (c .before .before .before .before .before .before .args .h * c .before .before .before .before .before .before .args .rb)) (c .before .before .before .before .before .before .args .support .now) (c .before .before .put .last .1 .0) (c .before .before .put .kept .1 .0)
 
--- src/stack.rt:86:1
+-- src/stack.rt:130:1
 returns : tie.Need-returns
 returns c =
     let A = c .before .before .before .before .before .before .args in
     let P = c .before .before .before .before .before .before .pre in
     let T = c .before .before .put in
-    let D = top-done (A .w) (A .h) (A .n) (A .support .now) (T .last .1 .0) (P .0 .1) (P .1 .0) (A .h * (A .st - 1)) (plane-size (A .w) (A .h) (A .st) (P .0 .0) .0) (T .kept .1 .0) in
+    let D = top-done (A .w) (A .h) (A .n) (A .support .now) (T .last .1 .0) (P .0 .1) (P .1 .0) (A .h * A .rb) (plane-size (A .w) (A .h) (A .rb) (P .0 .0) .0) (T .kept .1 .0) in
     (D .0 ∙ T .ensures, D .1)
 
 pub top-spec : {M : Type 1} → statement M
 top-spec =
     tie.close
-    (tie.spec
-    sub-size
-    mul-size
-    sub-a
-    mul-a
-    add-put
-    sub-put
-    part-put-start
-    part-put-end
-    put-requires
-    same-length
+    (tie.spec mul-size (λ c. search needs) mul-a add-put (λ c. search needs) (λ c. search needs) part-put-end put-requires same-length
     returns)
