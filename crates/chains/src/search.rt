@@ -6,6 +6,7 @@ ghost use mathlib.Core.Bool.{true};
 ghost use Prim.Native.Nat.{ℕ, _+_, _-_, _*_, _<_, _≤_};
 ghost use lib.ListN.{length};
 ghost use Rattle.rules.specs.Planning.{near};
+ghost use Rattle.laws.specs.Discs.{Halves};
 ghost use Rattle.image.specs.Rows.{packed, Clean};
 ghost use Rattle.words.specs.Words.{wordBit};
 ghost use Rattle.planes.specs.Scratch.{Drawn};
@@ -107,6 +108,7 @@ fn in_pair(
     above: &[u8],
     rings: &[u16],
     ones: &[u16],
+    halves: &[usize],
     w: usize,
     h: usize,
     q: Bound,
@@ -114,10 +116,10 @@ fn in_pair(
     ringed: bool,
 ) -> usize
     requires fits { ⌜ (Sized w h × ((2 * (t * t) ≤ q .0) × (q .0 ≤ 1024))) × Clean w h (now low) ⌝ }
-    requires planes { ⌜ Planes w h (now low) (now up) (now below) (now above) (now rings) × Ones (now ones) ⌝ }
+    requires planes { ⌜ Planes w h (now low) (now up) (now below) (now above) (now rings) × (Ones (now ones) × Halves (q .0) (now halves)) ⌝ }
     ensures { λ s. ⌜ Least 0 (h * w) (amissHere ringed w h (q .0) (now (low .entry)) (now (up .entry)) (now (below .entry)) (now (above .entry)) (now (rings .entry))) s ⌝ }
 {
-    let s = quick::pair::pair(low, up, below, above, rings, ones, w, h, q, t);
+    let s = quick::pair::pair(low, up, below, above, rings, ones, halves, w, h, q, t);
     if sure(s, ringed) {
         return h * w;
     }
@@ -132,6 +134,7 @@ fn in_pairs(
     sup: &[u8],
     rings: &[u16],
     ones: &[u16],
+    halves: &[usize],
     w: usize,
     h: usize,
     n: usize,
@@ -140,7 +143,7 @@ fn in_pairs(
     ringed: bool,
 ) -> usize
     requires fits { ⌜ Whole w h n (now part) (now sup) (now rings) ⌝ }
-    requires scratch { ⌜ Ones (now ones) × ((2 * (t * t) ≤ q .0) × (q .0 ≤ 1024)) ⌝ }
+    requires scratch { ⌜ (Ones (now ones) × Halves (q .0) (now halves)) × ((2 * (t * t) ≤ q .0) × (q .0 ≤ 1024)) ⌝ }
     ensures { λ s. ⌜ Least 0 ((n - 1) * (h * w)) (flat w h (amissIn ringed w h (q .0) (now (part .entry)) (now (sup .entry)) (now (rings .entry)))) s ⌝ }
 {
     let bytes = h * limits::row_bytes(w);
@@ -159,6 +162,7 @@ fn in_pairs(
             &sup[mid..end],
             &rings[x..next],
             ones,
+            halves,
             w,
             h,
             q,
@@ -191,5 +195,7 @@ pub fn first(
 {
     let mut ones = [0u16; 2048];
     quick::eights::fill_ones(&mut ones);
-    in_pairs(part, sup, rings, &ones, w, h, n, q, quick::stack::trusted(q), ringed)
+    let mut halves = [0usize; 33];
+    roots::halves(q.0, &mut halves);
+    in_pairs(part, sup, rings, &ones, &halves, w, h, n, q, quick::stack::trusted(q), ringed)
 }

@@ -7,3 +7,4 @@ pub mod Holding
 pub mod Trust
 pub mod Layers
 pub mod Stacks
+pub mod Nearby

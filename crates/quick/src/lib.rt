@@ -4,6 +4,7 @@ pub mod bits;
 pub mod eights;
 pub mod layers;
 pub mod marks;
+pub mod near;
 pub mod pair;
 pub mod rows;
 pub mod stack;

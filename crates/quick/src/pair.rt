@@ -7,6 +7,7 @@ ghost use mathlib.Core.Bool.{true, false, not, _&&_, _||_};
 ghost use Prim.Native.Nat.{ℕ, _+_, _*_, _/_, _<_, _≤_};
 ghost use lib.ListN.{length, getD};
 ghost use Rattle.rules.specs.Images.{rowBytes, bitAt};
+ghost use Rattle.laws.specs.Discs.{Halves};
 ghost use Rattle.image.specs.Rows.{packed, Clean};
 ghost use Rattle.words.specs.Words.{column};
 ghost use Rattle.planes.specs.Scratch.{Ready, Drawn, seen};
@@ -40,6 +41,7 @@ fn ringed_row(
     rings: &[u16],
     ones: &[u16],
     disc: &[u64],
+    halves: &[usize],
     hang: Row,
     w: usize,
     h: usize,
@@ -49,7 +51,7 @@ fn ringed_row(
     m: u16,
 ) -> Sure
     requires fits { ⌜ (Sized w h × (r < h)) × (Clean w h (now low) × ((h * rowBytes w ≤ length (now up)) × (length (now rings) ≡ h * w))) ⌝ }
-    requires scratch { ⌜ Ones (now ones) × (Ready w h (now disc) × (q .0 ≤ 1024)) ⌝ }
+    requires scratch { ⌜ (Ones (now ones) × Halves (q .0) (now halves)) × (Ready w h (now disc) × (q .0 ≤ 1024)) ⌝ }
     requires most { ⌜ ((c : ℕ) → c < w → getD (now rings) (r * w + c) 0 ≤ m) ⌝ }
     ensures { λ s. ⌜ (s .rings ≡ true → Row-good w h (q .0) t (seen w (now (disc .entry))) (now (low .entry)) (now (up .entry)) (now (rings .entry)) r) ⌝ }
     ensures { λ s. ⌜ (s .held ≡ true → (c : ℕ) → c < w → column hang c ≡ true → 0 < getD (now (rings .entry)) (r * w + c) 0) ⌝ }
@@ -58,7 +60,7 @@ fn ringed_row(
     let above = places::bits::less(r, 1);
     let below = places::bits::smaller(r + 1, h - 1);
     let seed = crate::rows::seed_rows(low, up, above * rb, r * rb, below * rb, rb);
-    let free = crate::rows::free_row(low, up, disc, r * rb, rb, r, q, t < m);
+    let free = crate::rows::free_row(low, up, disc, halves, r * rb, rb, r, q, t < m);
     let first = crate::rows::first_row(seed, free);
     let mut frees = [0u64; 4];
     words::rows::put(&mut frees, 0, free);
@@ -78,6 +80,7 @@ fn row(
     rings: &[u16],
     ones: &[u16],
     disc: &[u64],
+    halves: &[usize],
     w: usize,
     h: usize,
     r: usize,
@@ -87,7 +90,7 @@ fn row(
     some: bool,
 ) -> Sure
     requires fits { ⌜ (Sized w h × (r < h)) × (Clean w h (now low) × (Long (h * rowBytes w) (now low) (now up) (now below) (now above) × (length (now rings) ≡ h * w))) ⌝ }
-    requires scratch { ⌜ Ones (now ones) × (Ready w h (now disc) × (q .0 ≤ 1024)) ⌝ }
+    requires scratch { ⌜ (Ones (now ones) × Halves (q .0) (now halves)) × (Ready w h (now disc) × (q .0 ≤ 1024)) ⌝ }
     requires most { ⌜ ((c : ℕ) → c < w → getD (now rings) (r * w + c) 0 ≤ m) ⌝ }
     ensures { λ s. ⌜ (s .rings ≡ true → Row-good w h (q .0) t (seen w (now (disc .entry))) (now (low .entry)) (now (up .entry)) (now (rings .entry)) r) ⌝ }
     ensures { λ s. ⌜ (s .held ≡ true → some ≡ true → Row-held w (now (low .entry)) (now (up .entry)) (now (below .entry)) (now (above .entry)) (now (rings .entry)) r) ⌝ }
@@ -97,7 +100,7 @@ fn row(
     if m == 0 {
         return Sure { rings: true, held: !words::rows::any(hang) };
     }
-    ringed_row(low, up, rings, ones, disc, hang, w, h, r, q, t, m)
+    ringed_row(low, up, rings, ones, disc, halves, hang, w, h, r, q, t, m)
 }
 
 pub fn both(a: bool, b: bool) -> bool
@@ -116,6 +119,7 @@ fn rows(
     marks: &[u16],
     ones: &[u16],
     disc: &[u64],
+    halves: &[usize],
     w: usize,
     h: usize,
     q: Bound,
@@ -123,7 +127,7 @@ fn rows(
     some: bool,
 ) -> Sure
     requires fits { ⌜ Sized w h × (Clean w h (now low) × (Long (h * rowBytes w) (now low) (now up) (now below) (now above) × (length (now rings) ≡ h * w))) ⌝ }
-    requires scratch { ⌜ Ones (now ones) × (Ready w h (now disc) × (q .0 ≤ 1024)) ⌝ }
+    requires scratch { ⌜ (Ones (now ones) × Halves (q .0) (now halves)) × (Ready w h (now disc) × (q .0 ≤ 1024)) ⌝ }
     requires marked { ⌜ (257 ≤ length (now marks)) × ((p : ℕ) → p < h * w → getD (now rings) p 0 ≤ getD (now marks) (p / 256) 0) ⌝ }
     ensures { λ s. ⌜ (s .rings ≡ true → (r : ℕ) → r < h → Row-good w h (q .0) t (seen w (now (disc .entry))) (now (low .entry)) (now (up .entry)) (now (rings .entry)) r) ⌝ }
     ensures { λ s. ⌜ (s .held ≡ true → some ≡ true → (r : ℕ) → r < h → Row-held w (now (low .entry)) (now (up .entry)) (now (below .entry)) (now (above .entry)) (now (rings .entry)) r) ⌝ }
@@ -132,7 +136,7 @@ fn rows(
     let mut r = 0;
     while r < h {
         let m = crate::marks::joined(marks, r * w, w);
-        let s = row(low, up, below, above, rings, ones, disc, w, h, r, q, t, m, some);
+        let s = row(low, up, below, above, rings, ones, disc, halves, w, h, r, q, t, m, some);
         if !s.rings {
             return Sure { rings: false, held: false };
         }
@@ -150,13 +154,14 @@ pub fn pair(
     above: &[u8],
     rings: &[u16],
     ones: &[u16],
+    halves: &[usize],
     w: usize,
     h: usize,
     q: Bound,
     t: u16,
 ) -> Sure
     requires fits { ⌜ (Sized w h × ((2 * (t * t) ≤ q .0) × (q .0 ≤ 1024))) × (Clean w h (now low) × (length (now rings) ≡ h * w)) ⌝ }
-    requires planes { ⌜ Long (h * rowBytes w) (now low) (now up) (now below) (now above) × Ones (now ones) ⌝ }
+    requires planes { ⌜ Long (h * rowBytes w) (now low) (now up) (now below) (now above) × (Ones (now ones) × Halves (q .0) (now halves)) ⌝ }
     ensures { λ s. ⌜ (s .rings ≡ true → (p : ℕ) → p < h * w → badHere w h (q .0) (packed w (now (low .entry))) (packed w (now (up .entry))) (λ o. getD (now (rings .entry)) o 0) p ≡ false) ⌝ }
     ensures { λ s. ⌜ (s .held ≡ true → (p : ℕ) → p < h * w → unheldHere (packed w (now (low .entry))) (packed w (now (up .entry))) (packed w (now (below .entry))) (packed w (now (above .entry))) (λ o. getD (now (rings .entry)) o 0) p ≡ false) ⌝ }
 {
@@ -168,8 +173,8 @@ pub fn pair(
     }
     let mut disc = [0u64; 1610];
     if most <= t {
-        return rows(low, up, below, above, rings, &marks, ones, &disc, w, h, q, t, some);
+        return rows(low, up, below, above, rings, &marks, ones, &disc, halves, w, h, q, t, some);
     }
     crate::layers::read(low, &mut disc, w, h);
-    rows(low, up, below, above, rings, &marks, ones, &disc, w, h, q, t, some)
+    rows(low, up, below, above, rings, &marks, ones, &disc, halves, w, h, q, t, some)
 }

@@ -3,6 +3,7 @@ use rules::Bound;
 ghost use mathlib.Core.Path.{_≡_};
 ghost use mathlib.Core.Bool.{true};
 ghost use Prim.Native.Nat.{ℕ, _-_, _*_, _<_, _≤_};
+ghost use Rattle.laws.specs.Discs.{Halves};
 ghost use Rattle.quick.specs.Sound.{Ones, Whole, Fine};
 
 // Whether no ring of the stack is bad and nothing in it is unheld, pair by pair.
@@ -11,6 +12,7 @@ fn pairs(
     sup: &[u8],
     rings: &[u16],
     ones: &[u16],
+    halves: &[usize],
     w: usize,
     h: usize,
     n: usize,
@@ -18,7 +20,7 @@ fn pairs(
     t: u16,
 ) -> bool
     requires fits { ⌜ Whole w h n (now part) (now sup) (now rings) ⌝ }
-    requires scratch { ⌜ Ones (now ones) × ((2 * (t * t) ≤ q .0) × (q .0 ≤ 1024)) ⌝ }
+    requires scratch { ⌜ (Ones (now ones) × Halves (q .0) (now halves)) × ((2 * (t * t) ≤ q .0) × (q .0 ≤ 1024)) ⌝ }
     ensures { λ b. ⌜ (b ≡ true → (x : ℕ) → x < (n - 1) * (h * w) → Fine w h (q .0) (now (part .entry)) (now (sup .entry)) (now (rings .entry)) x) ⌝ }
 {
     let bytes = h * limits::row_bytes(w);
@@ -37,6 +39,7 @@ fn pairs(
             &sup[mid..end],
             &rings[x..next],
             ones,
+            halves,
             w,
             h,
             q,
@@ -82,5 +85,7 @@ pub fn sure(
 {
     let mut ones = [0u16; 2048];
     crate::eights::fill_ones(&mut ones);
-    pairs(part, sup, rings, &ones, w, h, n, q, trusted(q))
+    let mut halves = [0usize; 33];
+    roots::halves(q.0, &mut halves);
+    pairs(part, sup, rings, &ones, &halves, w, h, n, q, trusted(q))
 }

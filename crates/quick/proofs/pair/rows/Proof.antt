@@ -19,10 +19,10 @@ use Rattle.quick.proofs.pair.both.Reads as both-reads
 use Rattle.quick.proofs.pair.row.Reads as row-reads
 
 abbrev Inv-loop : tie.InvT-loop
-Inv-loop low up below above rings marks ones disc w h q t some held₀ r₀ held r = (r ≤ h) × ((y : ℕ) → y < r → Row-good w h (q .0) t (seen w disc) low up rings y) × (held ≡ true → some ≡ true → (y : ℕ) → y < r → Row-held w low up below above rings y)
+Inv-loop low up below above rings marks ones disc halves w h q t some held₀ r₀ held r = (r ≤ h) × ((y : ℕ) → y < r → Row-good w h (q .0) t (seen w disc) low up rings y) × (held ≡ true → some ≡ true → (y : ℕ) → y < r → Row-held w low up below above rings y)
 
 abbrev μ-loop : tie.MeasureT-loop
-μ-loop low up below above rings marks ones disc w h q t some held₀ r₀ held r = h - r
+μ-loop low up below above rings marks ones disc halves w h q t some held₀ r₀ held r = h - r
 
 -- src/pair.rt:133:5
 loop-holds : tie.Need-loop-holds Inv-loop μ-loop
@@ -30,15 +30,15 @@ loop-holds c = (omega arith, (λ y l. absurd (omega arith)), λ e s y l. absurd 
 
 -- src/pair.rt:134:45
 mul-joined : tie.Need-mul-joined Inv-loop μ-loop
-mul-joined c = omega (arith, row-in (c .before .loop .r) (c .before .before .before .before .before .before .before .before .before .before .args .h) (c .before .before .before .before .before .before .before .before .before .before .args .w) (omega arith), area-fit (c .before .before .before .before .before .before .before .before .before .before .args .w) (c .before .before .before .before .before .before .before .before .before .before .args .h) (c .before .before .before .before .before .before .before .before .before .before .pre .0 .0))
+mul-joined c = omega (arith, row-in (c .before .loop .r) (c .before .before .before .before .before .before .before .before .before .before .before .args .h) (c .before .before .before .before .before .before .before .before .before .before .before .args .w) (omega arith), area-fit (c .before .before .before .before .before .before .before .before .before .before .before .args .w) (c .before .before .before .before .before .before .before .before .before .before .before .args .h) (c .before .before .before .before .before .before .before .before .before .before .before .pre .0 .0))
 
 -- src/pair.rt:134:13
 joined-requires : tie.Need-joined-requires Inv-loop μ-loop
-joined-requires c κs = (c .before .before .before .before .before .before .before .before .before .before .pre .0 .0 .w-low, (c .before .before .before .before .before .before .before .before .before .before .pre .0 .0 .w-high, (omega (arith, row-in (c .before .loop .r) (c .before .before .before .before .before .before .before .before .before .before .args .h) (c .before .before .before .before .before .before .before .before .before .before .args .w) (omega arith), area-fit (c .before .before .before .before .before .before .before .before .before .before .args .w) (c .before .before .before .before .before .before .before .before .before .before .args .h) (c .before .before .before .before .before .before .before .before .before .before .pre .0 .0)), c .before .before .before .before .before .before .before .before .before .before .pre .1 .1 .0)))
+joined-requires c κs = (c .before .before .before .before .before .before .before .before .before .before .before .pre .0 .0 .w-low, (c .before .before .before .before .before .before .before .before .before .before .before .pre .0 .0 .w-high, (omega (arith, row-in (c .before .loop .r) (c .before .before .before .before .before .before .before .before .before .before .before .args .h) (c .before .before .before .before .before .before .before .before .before .before .before .args .w) (omega arith), area-fit (c .before .before .before .before .before .before .before .before .before .before .before .args .w) (c .before .before .before .before .before .before .before .before .before .before .before .args .h) (c .before .before .before .before .before .before .before .before .before .before .before .pre .0 .0)), c .before .before .before .before .before .before .before .before .before .before .before .pre .1 .1 .0)))
 
 -- src/pair.rt:135:13
 row-requires : tie.Need-row-requires Inv-loop μ-loop
-row-requires c κs = (((c .before .before .before .before .before .before .before .before .before .before .before .pre .0 .0, omega arith), (c .before .before .before .before .before .before .before .before .before .before .before .pre .0 .1 .0, (c .before .before .before .before .before .before .before .before .before .before .before .pre .0 .1 .1 .0, c .before .before .before .before .before .before .before .before .before .before .before .pre .0 .1 .1 .1))), (c .before .before .before .before .before .before .before .before .before .before .before .pre .1 .0, c .joined .ensures (c .before .before .before .before .before .before .before .before .before .before .before .args .rings .now) (λ p l. c .before .before .before .before .before .before .before .before .before .before .before .pre .1 .1 .1 p (omega (arith, row-in (c .before .before .loop .r) (c .before .before .before .before .before .before .before .before .before .before .before .args .h) (c .before .before .before .before .before .before .before .before .before .before .before .args .w) (omega arith))))))
+row-requires c κs = (((c .before .before .before .before .before .before .before .before .before .before .before .before .pre .0 .0, omega arith), (c .before .before .before .before .before .before .before .before .before .before .before .before .pre .0 .1 .0, (c .before .before .before .before .before .before .before .before .before .before .before .before .pre .0 .1 .1 .0, c .before .before .before .before .before .before .before .before .before .before .before .before .pre .0 .1 .1 .1))), (c .before .before .before .before .before .before .before .before .before .before .before .before .pre .1 .0, c .joined .ensures (c .before .before .before .before .before .before .before .before .before .before .before .before .args .rings .now) (λ p l. c .before .before .before .before .before .before .before .before .before .before .before .before .pre .1 .1 .1 p (omega (arith, row-in (c .before .before .loop .r) (c .before .before .before .before .before .before .before .before .before .before .before .before .args .h) (c .before .before .before .before .before .before .before .before .before .before .before .before .args .w) (omega arith))))))
 
 -- src/pair.rt:137:13
 returns : tie.Need-returns Inv-loop μ-loop
@@ -50,7 +50,7 @@ both-requires c κs = search needs
 
 -- src/pair.rt:140:9
 add-r : tie.Need-add-r Inv-loop μ-loop
-add-r c = omega (arith, c .before .before .before .before .before .before .before .before .before .before .before .before .before .before .before .pre .0 .0 .h-high)
+add-r c = omega (arith, c .before .before .before .before .before .before .before .before .before .before .before .before .before .before .before .before .pre .0 .0 .h-high)
 
 -- src/pair.rt:133:5
 loop-less : tie.Need-loop-less Inv-loop μ-loop
@@ -58,7 +58,7 @@ loop-less c = search needs
 
 -- src/pair.rt:133:5
 loop-again : tie.Need-loop-again Inv-loop μ-loop
-loop-again c = (omega arith, below-more (λ y. Row-good (c .before .before .before .before .before .before .before .before .before .before .before .before .before .before .before .args .w) (c .before .before .before .before .before .before .before .before .before .before .before .before .before .before .before .args .h) (c .before .before .before .before .before .before .before .before .before .before .before .before .before .before .before .args .q .0) (c .before .before .before .before .before .before .before .before .before .before .before .before .before .before .before .args .t) (seen (c .before .before .before .before .before .before .before .before .before .before .before .before .before .before .before .args .w) (c .before .before .before .before .before .before .before .before .before .before .before .before .before .before .before .args .disc .now)) (c .before .before .before .before .before .before .before .before .before .before .before .before .before .before .before .args .low .now) (c .before .before .before .before .before .before .before .before .before .before .before .before .before .before .before .args .up .now) (c .before .before .before .before .before .before .before .before .before .before .before .before .before .before .before .args .rings .now) y) (c .before .before .before .before .before .before .loop .r) (c .before .before .before .before .before .before .loop .inv .1) (c .before .before .before .row .ensures .0 (not-false _ (c .before .if1 .left))), λ e s. below-more (λ y. Row-held (c .before .before .before .before .before .before .before .before .before .before .before .before .before .before .before .args .w) (c .before .before .before .before .before .before .before .before .before .before .before .before .before .before .before .args .low .now) (c .before .before .before .before .before .before .before .before .before .before .before .before .before .before .before .args .up .now) (c .before .before .before .before .before .before .before .before .before .before .before .before .before .before .before .args .below .now) (c .before .before .before .before .before .before .before .before .before .before .before .before .before .before .before .args .above .now) (c .before .before .before .before .before .before .before .before .before .before .before .before .before .before .before .args .rings .now) y) (c .before .before .before .before .before .before .loop .r) (c .before .before .before .before .before .before .loop .inv .2 (and-l (c .before .before .before .before .before .before .loop .held) (c .before .before .before .row .result .held) (sym (c .both .ensures) ∙ e)) s) (c .before .before .before .row .ensures .1 (and-r (c .before .before .before .before .before .before .loop .held) (c .before .before .before .row .result .held) (sym (c .both .ensures) ∙ e)) s))
+loop-again c = (omega arith, below-more (λ y. Row-good (c .before .before .before .before .before .before .before .before .before .before .before .before .before .before .before .before .args .w) (c .before .before .before .before .before .before .before .before .before .before .before .before .before .before .before .before .args .h) (c .before .before .before .before .before .before .before .before .before .before .before .before .before .before .before .before .args .q .0) (c .before .before .before .before .before .before .before .before .before .before .before .before .before .before .before .before .args .t) (seen (c .before .before .before .before .before .before .before .before .before .before .before .before .before .before .before .before .args .w) (c .before .before .before .before .before .before .before .before .before .before .before .before .before .before .before .before .args .disc .now)) (c .before .before .before .before .before .before .before .before .before .before .before .before .before .before .before .before .args .low .now) (c .before .before .before .before .before .before .before .before .before .before .before .before .before .before .before .before .args .up .now) (c .before .before .before .before .before .before .before .before .before .before .before .before .before .before .before .before .args .rings .now) y) (c .before .before .before .before .before .before .loop .r) (c .before .before .before .before .before .before .loop .inv .1) (c .before .before .before .row .ensures .0 (not-false _ (c .before .if1 .left))), λ e s. below-more (λ y. Row-held (c .before .before .before .before .before .before .before .before .before .before .before .before .before .before .before .before .args .w) (c .before .before .before .before .before .before .before .before .before .before .before .before .before .before .before .before .args .low .now) (c .before .before .before .before .before .before .before .before .before .before .before .before .before .before .before .before .args .up .now) (c .before .before .before .before .before .before .before .before .before .before .before .before .before .before .before .before .args .below .now) (c .before .before .before .before .before .before .before .before .before .before .before .before .before .before .before .before .args .above .now) (c .before .before .before .before .before .before .before .before .before .before .before .before .before .before .before .before .args .rings .now) y) (c .before .before .before .before .before .before .loop .r) (c .before .before .before .before .before .before .loop .inv .2 (and-l (c .before .before .before .before .before .before .loop .held) (c .before .before .before .row .result .held) (sym (c .both .ensures) ∙ e)) s) (c .before .before .before .row .ensures .1 (and-r (c .before .before .before .before .before .before .loop .held) (c .before .before .before .row .result .held) (sym (c .both .ensures) ∙ e)) s))
 
 -- src/pair.rt:110:1
 returns-2 : tie.Need-returns-2 Inv-loop μ-loop

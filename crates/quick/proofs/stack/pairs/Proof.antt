@@ -16,22 +16,22 @@ use Rattle.quick.proofs.pair.both.Reads as both-reads
 use Rattle.quick.proofs.pair.pair.Reads as pair-reads
 
 abbrev Inv-loop : tie.InvT-loop
-Inv-loop part sup rings ones w h n q t bytes area at₀ x₀ i₀ at x i = (i ≤ n - 1) × (at ≡ i * bytes) × (x ≡ i * area) × ((y : ℕ) → y < x → Fine w h (q .0) part sup rings y)
+Inv-loop part sup rings ones halves w h n q t bytes area at₀ x₀ i₀ at x i = (i ≤ n - 1) × (at ≡ i * bytes) × (x ≡ i * area) × ((y : ℕ) → y < x → Fine w h (q .0) part sup rings y)
 
 abbrev μ-loop : tie.MeasureT-loop
-μ-loop part sup rings ones w h n q t bytes area at₀ x₀ i₀ at x i = n - 1 - i
+μ-loop part sup rings ones halves w h n q t bytes area at₀ x₀ i₀ at x i = n - 1 - i
 
 -- src/stack.rt:24:21
 row-bytes-requires : tie.Need-row-bytes-requires Inv-loop μ-loop
-row-bytes-requires c κs = c .before .before .before .before .pre .0 .sized .w-high
+row-bytes-requires c κs = c .before .before .before .before .before .pre .0 .sized .w-high
 
 -- src/stack.rt:24:17
 mul-bytes : tie.Need-mul-bytes Inv-loop μ-loop
-mul-bytes c = omega (arith, bytes-fit (c .before .before .before .before .before .args .w) (c .before .before .before .before .before .args .h) (c .row-bytes .result) (c .before .before .before .before .before .pre .0 .sized) (c .row-bytes .ensures .1))
+mul-bytes c = omega (arith, bytes-fit (c .before .before .before .before .before .before .args .w) (c .before .before .before .before .before .before .args .h) (c .row-bytes .result) (c .before .before .before .before .before .before .pre .0 .sized) (c .row-bytes .ensures .1))
 
 -- src/stack.rt:25:16
 mul-area : tie.Need-mul-area Inv-loop μ-loop
-mul-area c = omega (arith, area-fit (c .before .before .before .before .before .args .w) (c .before .before .before .before .before .args .h) (c .before .before .before .before .before .pre .0 .sized))
+mul-area c = omega (arith, area-fit (c .before .before .before .before .before .before .args .w) (c .before .before .before .before .before .before .args .h) (c .before .before .before .before .before .before .pre .0 .sized))
 
 -- src/stack.rt:29:5
 loop-holds : tie.Need-loop-holds Inv-loop μ-loop
@@ -39,19 +39,19 @@ loop-holds c = (omega arith, omega arith, omega arith, λ y l. absurd (omega ari
 
 -- src/stack.rt:29:11
 add-loop : tie.Need-add-loop Inv-loop μ-loop
-add-loop c = omega (arith, c .before .before .before .before .before .before .pre .0 .n-high)
+add-loop c = omega (arith, c .before .before .before .before .before .before .before .pre .0 .n-high)
 
 -- src/stack.rt:30:19
 add-mid : tie.Need-add-mid Inv-loop μ-loop
-add-mid c = omega (arith, pair-fits (c .before .before .before .before .before .before .before .args .w) (c .before .before .before .before .before .before .before .args .h) (c .before .before .before .before .before .before .before .args .n) (c .before .loop .i) (c .before .before .row-bytes .result) (c .before .loop .at) (c .before .loop .x) (c .before .before .before .before .before .before .before .args .part .now) (c .before .before .before .before .before .before .before .args .sup .now) (c .before .before .before .before .before .before .before .args .rings .now) (c .before .before .before .before .before .before .before .pre .0) (c .before .before .row-bytes .ensures .0) (c .before .before .row-bytes .ensures .1) (c .before .loop .inv .1) (c .before .loop .inv .2) (omega (arith, c .loop-test .taken)))
+add-mid c = omega (arith, pair-fits (c .before .before .before .before .before .before .before .before .args .w) (c .before .before .before .before .before .before .before .before .args .h) (c .before .before .before .before .before .before .before .before .args .n) (c .before .loop .i) (c .before .before .row-bytes .result) (c .before .loop .at) (c .before .loop .x) (c .before .before .before .before .before .before .before .before .args .part .now) (c .before .before .before .before .before .before .before .before .args .sup .now) (c .before .before .before .before .before .before .before .before .args .rings .now) (c .before .before .before .before .before .before .before .before .pre .0) (c .before .before .row-bytes .ensures .0) (c .before .before .row-bytes .ensures .1) (c .before .loop .inv .1) (c .before .loop .inv .2) (omega (arith, c .loop-test .taken)))
 
 -- src/stack.rt:31:19
 add-end : tie.Need-add-end Inv-loop μ-loop
-add-end c = omega (arith, pair-fits (c .before .before .before .before .before .before .before .args .w) (c .before .before .before .before .before .before .before .args .h) (c .before .before .before .before .before .before .before .args .n) (c .before .loop .i) (c .before .before .row-bytes .result) (c .before .loop .at) (c .before .loop .x) (c .before .before .before .before .before .before .before .args .part .now) (c .before .before .before .before .before .before .before .args .sup .now) (c .before .before .before .before .before .before .before .args .rings .now) (c .before .before .before .before .before .before .before .pre .0) (c .before .before .row-bytes .ensures .0) (c .before .before .row-bytes .ensures .1) (c .before .loop .inv .1) (c .before .loop .inv .2) (omega (arith, c .loop-test .taken)))
+add-end c = omega (arith, pair-fits (c .before .before .before .before .before .before .before .before .args .w) (c .before .before .before .before .before .before .before .before .args .h) (c .before .before .before .before .before .before .before .before .args .n) (c .before .loop .i) (c .before .before .row-bytes .result) (c .before .loop .at) (c .before .loop .x) (c .before .before .before .before .before .before .before .before .args .part .now) (c .before .before .before .before .before .before .before .before .args .sup .now) (c .before .before .before .before .before .before .before .before .args .rings .now) (c .before .before .before .before .before .before .before .before .pre .0) (c .before .before .row-bytes .ensures .0) (c .before .before .row-bytes .ensures .1) (c .before .loop .inv .1) (c .before .loop .inv .2) (omega (arith, c .loop-test .taken)))
 
 -- src/stack.rt:32:20
 add-next : tie.Need-add-next Inv-loop μ-loop
-add-next c = omega (arith, pair-fits (c .before .before .before .before .before .before .before .args .w) (c .before .before .before .before .before .before .before .args .h) (c .before .before .before .before .before .before .before .args .n) (c .before .loop .i) (c .before .before .row-bytes .result) (c .before .loop .at) (c .before .loop .x) (c .before .before .before .before .before .before .before .args .part .now) (c .before .before .before .before .before .before .before .args .sup .now) (c .before .before .before .before .before .before .before .args .rings .now) (c .before .before .before .before .before .before .before .pre .0) (c .before .before .row-bytes .ensures .0) (c .before .before .row-bytes .ensures .1) (c .before .loop .inv .1) (c .before .loop .inv .2) (omega (arith, c .loop-test .taken)))
+add-next c = omega (arith, pair-fits (c .before .before .before .before .before .before .before .before .args .w) (c .before .before .before .before .before .before .before .before .args .h) (c .before .before .before .before .before .before .before .before .args .n) (c .before .loop .i) (c .before .before .row-bytes .result) (c .before .loop .at) (c .before .loop .x) (c .before .before .before .before .before .before .before .before .args .part .now) (c .before .before .before .before .before .before .before .before .args .sup .now) (c .before .before .before .before .before .before .before .before .args .rings .now) (c .before .before .before .before .before .before .before .before .pre .0) (c .before .before .row-bytes .ensures .0) (c .before .before .row-bytes .ensures .1) (c .before .loop .inv .1) (c .before .loop .inv .2) (omega (arith, c .loop-test .taken)))
 
 -- src/stack.rt:34:13
 sub-pair : tie.Need-sub-pair Inv-loop μ-loop
@@ -63,7 +63,7 @@ part-pair-start c = search needs
 
 -- src/stack.rt:34:13
 part-pair-end : tie.Need-part-pair-end Inv-loop μ-loop
-part-pair-end c = omega (arith, pair-bytes (c .before .before .before .before .before .before .before .args .w) (c .before .before .before .before .before .before .before .args .h) (c .before .before .before .before .before .before .before .args .n) (c .before .loop .i) (c .before .before .row-bytes .result) (c .before .loop .at) (c .before .loop .x) (c .before .before .before .before .before .before .before .args .part .now) (c .before .before .before .before .before .before .before .args .sup .now) (c .before .before .before .before .before .before .before .args .rings .now) (c .before .before .before .before .before .before .before .pre .0) (c .before .before .row-bytes .ensures .0) (c .before .before .row-bytes .ensures .1) (c .before .loop .inv .1) (c .before .loop .inv .2) (omega (arith, c .loop-test .taken)))
+part-pair-end c = omega (arith, pair-bytes (c .before .before .before .before .before .before .before .before .args .w) (c .before .before .before .before .before .before .before .before .args .h) (c .before .before .before .before .before .before .before .before .args .n) (c .before .loop .i) (c .before .before .row-bytes .result) (c .before .loop .at) (c .before .loop .x) (c .before .before .before .before .before .before .before .before .args .part .now) (c .before .before .before .before .before .before .before .before .args .sup .now) (c .before .before .before .before .before .before .before .before .args .rings .now) (c .before .before .before .before .before .before .before .before .pre .0) (c .before .before .row-bytes .ensures .0) (c .before .before .row-bytes .ensures .1) (c .before .loop .inv .1) (c .before .loop .inv .2) (omega (arith, c .loop-test .taken)))
 
 -- src/stack.rt:35:13
 sub-pair-2 : tie.Need-sub-pair-2 Inv-loop μ-loop
@@ -75,7 +75,7 @@ part-pair-start-2 c = search needs
 
 -- src/stack.rt:35:13
 part-pair-end-2 : tie.Need-part-pair-end-2 Inv-loop μ-loop
-part-pair-end-2 c = omega (arith, pair-bytes (c .before .before .before .before .before .before .before .before .args .w) (c .before .before .before .before .before .before .before .before .args .h) (c .before .before .before .before .before .before .before .before .args .n) (c .before .before .loop .i) (c .before .before .before .row-bytes .result) (c .before .before .loop .at) (c .before .before .loop .x) (c .before .before .before .before .before .before .before .before .args .part .now) (c .before .before .before .before .before .before .before .before .args .sup .now) (c .before .before .before .before .before .before .before .before .args .rings .now) (c .before .before .before .before .before .before .before .before .pre .0) (c .before .before .before .row-bytes .ensures .0) (c .before .before .before .row-bytes .ensures .1) (c .before .before .loop .inv .1) (c .before .before .loop .inv .2) (omega (arith, c .before .loop-test .taken)))
+part-pair-end-2 c = omega (arith, pair-bytes (c .before .before .before .before .before .before .before .before .before .args .w) (c .before .before .before .before .before .before .before .before .before .args .h) (c .before .before .before .before .before .before .before .before .before .args .n) (c .before .before .loop .i) (c .before .before .before .row-bytes .result) (c .before .before .loop .at) (c .before .before .loop .x) (c .before .before .before .before .before .before .before .before .before .args .part .now) (c .before .before .before .before .before .before .before .before .before .args .sup .now) (c .before .before .before .before .before .before .before .before .before .args .rings .now) (c .before .before .before .before .before .before .before .before .before .pre .0) (c .before .before .before .row-bytes .ensures .0) (c .before .before .before .row-bytes .ensures .1) (c .before .before .loop .inv .1) (c .before .before .loop .inv .2) (omega (arith, c .before .loop-test .taken)))
 
 -- src/stack.rt:36:13
 sub-pair-3 : tie.Need-sub-pair-3 Inv-loop μ-loop
@@ -87,7 +87,7 @@ part-pair-start-3 c = search needs
 
 -- src/stack.rt:36:13
 part-pair-end-3 : tie.Need-part-pair-end-3 Inv-loop μ-loop
-part-pair-end-3 c = omega (arith, pair-bytes (c .before .before .before .before .before .before .before .before .before .args .w) (c .before .before .before .before .before .before .before .before .before .args .h) (c .before .before .before .before .before .before .before .before .before .args .n) (c .before .before .before .loop .i) (c .before .before .before .before .row-bytes .result) (c .before .before .before .loop .at) (c .before .before .before .loop .x) (c .before .before .before .before .before .before .before .before .before .args .part .now) (c .before .before .before .before .before .before .before .before .before .args .sup .now) (c .before .before .before .before .before .before .before .before .before .args .rings .now) (c .before .before .before .before .before .before .before .before .before .pre .0) (c .before .before .before .before .row-bytes .ensures .0) (c .before .before .before .before .row-bytes .ensures .1) (c .before .before .before .loop .inv .1) (c .before .before .before .loop .inv .2) (omega (arith, c .before .before .loop-test .taken)))
+part-pair-end-3 c = omega (arith, pair-bytes (c .before .before .before .before .before .before .before .before .before .before .args .w) (c .before .before .before .before .before .before .before .before .before .before .args .h) (c .before .before .before .before .before .before .before .before .before .before .args .n) (c .before .before .before .loop .i) (c .before .before .before .before .row-bytes .result) (c .before .before .before .loop .at) (c .before .before .before .loop .x) (c .before .before .before .before .before .before .before .before .before .before .args .part .now) (c .before .before .before .before .before .before .before .before .before .before .args .sup .now) (c .before .before .before .before .before .before .before .before .before .before .args .rings .now) (c .before .before .before .before .before .before .before .before .before .before .pre .0) (c .before .before .before .before .row-bytes .ensures .0) (c .before .before .before .before .row-bytes .ensures .1) (c .before .before .before .loop .inv .1) (c .before .before .before .loop .inv .2) (omega (arith, c .before .before .loop-test .taken)))
 
 -- src/stack.rt:37:13
 sub-pair-4 : tie.Need-sub-pair-4 Inv-loop μ-loop
@@ -99,11 +99,11 @@ part-pair-start-4 c = search needs
 
 -- src/stack.rt:37:13
 part-pair-end-4 : tie.Need-part-pair-end-4 Inv-loop μ-loop
-part-pair-end-4 c = omega (arith, pair-bytes (c .before .before .before .before .before .before .before .before .before .before .args .w) (c .before .before .before .before .before .before .before .before .before .before .args .h) (c .before .before .before .before .before .before .before .before .before .before .args .n) (c .before .before .before .before .loop .i) (c .before .before .before .before .before .row-bytes .result) (c .before .before .before .before .loop .at) (c .before .before .before .before .loop .x) (c .before .before .before .before .before .before .before .before .before .before .args .part .now) (c .before .before .before .before .before .before .before .before .before .before .args .sup .now) (c .before .before .before .before .before .before .before .before .before .before .args .rings .now) (c .before .before .before .before .before .before .before .before .before .before .pre .0) (c .before .before .before .before .before .row-bytes .ensures .0) (c .before .before .before .before .before .row-bytes .ensures .1) (c .before .before .before .before .loop .inv .1) (c .before .before .before .before .loop .inv .2) (omega (arith, c .before .before .before .loop-test .taken)))
+part-pair-end-4 c = omega (arith, pair-bytes (c .before .before .before .before .before .before .before .before .before .before .before .args .w) (c .before .before .before .before .before .before .before .before .before .before .before .args .h) (c .before .before .before .before .before .before .before .before .before .before .before .args .n) (c .before .before .before .before .loop .i) (c .before .before .before .before .before .row-bytes .result) (c .before .before .before .before .loop .at) (c .before .before .before .before .loop .x) (c .before .before .before .before .before .before .before .before .before .before .before .args .part .now) (c .before .before .before .before .before .before .before .before .before .before .before .args .sup .now) (c .before .before .before .before .before .before .before .before .before .before .before .args .rings .now) (c .before .before .before .before .before .before .before .before .before .before .before .pre .0) (c .before .before .before .before .before .row-bytes .ensures .0) (c .before .before .before .before .before .row-bytes .ensures .1) (c .before .before .before .before .loop .inv .1) (c .before .before .before .before .loop .inv .2) (omega (arith, c .before .before .before .loop-test .taken)))
 
 -- src/stack.rt:38:13
 mul-pair : tie.Need-mul-pair Inv-loop μ-loop
-mul-pair c = omega (arith, pair-fits (c .before .before .before .before .before .before .before .before .before .before .before .args .w) (c .before .before .before .before .before .before .before .before .before .before .before .args .h) (c .before .before .before .before .before .before .before .before .before .before .before .args .n) (c .before .before .before .before .before .loop .i) (c .before .before .before .before .before .before .row-bytes .result) (c .before .before .before .before .before .loop .at) (c .before .before .before .before .before .loop .x) (c .before .before .before .before .before .before .before .before .before .before .before .args .part .now) (c .before .before .before .before .before .before .before .before .before .before .before .args .sup .now) (c .before .before .before .before .before .before .before .before .before .before .before .args .rings .now) (c .before .before .before .before .before .before .before .before .before .before .before .pre .0) (c .before .before .before .before .before .before .row-bytes .ensures .0) (c .before .before .before .before .before .before .row-bytes .ensures .1) (c .before .before .before .before .before .loop .inv .1) (c .before .before .before .before .before .loop .inv .2) (omega (arith, c .before .before .before .before .loop-test .taken)))
+mul-pair c = omega (arith, pair-fits (c .before .before .before .before .before .before .before .before .before .before .before .before .args .w) (c .before .before .before .before .before .before .before .before .before .before .before .before .args .h) (c .before .before .before .before .before .before .before .before .before .before .before .before .args .n) (c .before .before .before .before .before .loop .i) (c .before .before .before .before .before .before .row-bytes .result) (c .before .before .before .before .before .loop .at) (c .before .before .before .before .before .loop .x) (c .before .before .before .before .before .before .before .before .before .before .before .before .args .part .now) (c .before .before .before .before .before .before .before .before .before .before .before .before .args .sup .now) (c .before .before .before .before .before .before .before .before .before .before .before .before .args .rings .now) (c .before .before .before .before .before .before .before .before .before .before .before .before .pre .0) (c .before .before .before .before .before .before .row-bytes .ensures .0) (c .before .before .before .before .before .before .row-bytes .ensures .1) (c .before .before .before .before .before .loop .inv .1) (c .before .before .before .before .before .loop .inv .2) (omega (arith, c .before .before .before .before .loop-test .taken)))
 
 -- src/stack.rt:38:13
 sub-pair-5 : tie.Need-sub-pair-5 Inv-loop μ-loop
@@ -115,11 +115,11 @@ part-pair-start-5 c = search needs
 
 -- src/stack.rt:38:13
 part-pair-end-5 : tie.Need-part-pair-end-5 Inv-loop μ-loop
-part-pair-end-5 c = omega (arith, pair-rings (c .before .before .before .before .before .before .before .before .before .before .before .args .w) (c .before .before .before .before .before .before .before .before .before .before .before .args .h) (c .before .before .before .before .before .before .before .before .before .before .before .args .n) (c .before .before .before .before .before .loop .i) (c .before .before .before .before .before .before .row-bytes .result) (c .before .before .before .before .before .loop .at) (c .before .before .before .before .before .loop .x) (c .before .before .before .before .before .before .before .before .before .before .before .args .part .now) (c .before .before .before .before .before .before .before .before .before .before .before .args .sup .now) (c .before .before .before .before .before .before .before .before .before .before .before .args .rings .now) (c .before .before .before .before .before .before .before .before .before .before .before .pre .0) (c .before .before .before .before .before .before .row-bytes .ensures .0) (c .before .before .before .before .before .before .row-bytes .ensures .1) (c .before .before .before .before .before .loop .inv .1) (c .before .before .before .before .before .loop .inv .2) (omega (arith, c .before .before .before .before .loop-test .taken)))
+part-pair-end-5 c = omega (arith, pair-rings (c .before .before .before .before .before .before .before .before .before .before .before .before .args .w) (c .before .before .before .before .before .before .before .before .before .before .before .before .args .h) (c .before .before .before .before .before .before .before .before .before .before .before .before .args .n) (c .before .before .before .before .before .loop .i) (c .before .before .before .before .before .before .row-bytes .result) (c .before .before .before .before .before .loop .at) (c .before .before .before .before .before .loop .x) (c .before .before .before .before .before .before .before .before .before .before .before .before .args .part .now) (c .before .before .before .before .before .before .before .before .before .before .before .before .args .sup .now) (c .before .before .before .before .before .before .before .before .before .before .before .before .args .rings .now) (c .before .before .before .before .before .before .before .before .before .before .before .before .pre .0) (c .before .before .before .before .before .before .row-bytes .ensures .0) (c .before .before .before .before .before .before .row-bytes .ensures .1) (c .before .before .before .before .before .loop .inv .1) (c .before .before .before .before .before .loop .inv .2) (omega (arith, c .before .before .before .before .loop-test .taken)))
 
 -- src/stack.rt:33:13
 pair-requires : tie.Need-pair-requires Inv-loop μ-loop
-pair-requires c κs = (((c .before .before .before .before .before .before .before .before .before .before .before .before .pre .0 .sized, c .before .before .before .before .before .before .before .before .before .before .before .before .pre .1 .1), (pair-clean (c .before .before .before .before .before .before .before .before .before .before .before .before .args .w) (c .before .before .before .before .before .before .before .before .before .before .before .before .args .h) (c .before .before .before .before .before .before .before .before .before .before .before .before .args .n) (c .before .before .before .before .before .before .loop .i) (c .before .before .before .before .before .before .before .row-bytes .result) (c .before .before .before .before .before .before .loop .at) (c .before .before .before .before .before .before .loop .x) (c .before .before .before .before .before .before .before .before .before .before .before .before .args .part .now) (c .before .before .before .before .before .before .before .before .before .before .before .before .args .sup .now) (c .before .before .before .before .before .before .before .before .before .before .before .before .args .rings .now) (c .before .before .before .before .before .before .before .before .before .before .before .before .pre .0) (c .before .before .before .before .before .before .before .row-bytes .ensures .0) (c .before .before .before .before .before .before .before .row-bytes .ensures .1) (c .before .before .before .before .before .before .loop .inv .1) (c .before .before .before .before .before .before .loop .inv .2) (omega (arith, c .before .before .before .before .before .loop-test .taken)), pair-count (c .before .before .before .before .before .before .before .before .before .before .before .before .args .w) (c .before .before .before .before .before .before .before .before .before .before .before .before .args .h) (c .before .before .before .before .before .before .before .before .before .before .before .before .args .n) (c .before .before .before .before .before .before .loop .i) (c .before .before .before .before .before .before .before .row-bytes .result) (c .before .before .before .before .before .before .loop .at) (c .before .before .before .before .before .before .loop .x) (c .before .before .before .before .before .before .before .before .before .before .before .before .args .part .now) (c .before .before .before .before .before .before .before .before .before .before .before .before .args .sup .now) (c .before .before .before .before .before .before .before .before .before .before .before .before .args .rings .now) (c .before .before .before .before .before .before .before .before .before .before .before .before .pre .0) (c .before .before .before .before .before .before .before .row-bytes .ensures .0) (c .before .before .before .before .before .before .before .row-bytes .ensures .1) (c .before .before .before .before .before .before .loop .inv .1) (c .before .before .before .before .before .before .loop .inv .2) (omega (arith, c .before .before .before .before .before .loop-test .taken)))), (pair-long (c .before .before .before .before .before .before .before .before .before .before .before .before .args .w) (c .before .before .before .before .before .before .before .before .before .before .before .before .args .h) (c .before .before .before .before .before .before .before .before .before .before .before .before .args .n) (c .before .before .before .before .before .before .loop .i) (c .before .before .before .before .before .before .before .row-bytes .result) (c .before .before .before .before .before .before .loop .at) (c .before .before .before .before .before .before .loop .x) (c .before .before .before .before .before .before .before .before .before .before .before .before .args .part .now) (c .before .before .before .before .before .before .before .before .before .before .before .before .args .sup .now) (c .before .before .before .before .before .before .before .before .before .before .before .before .args .rings .now) (c .before .before .before .before .before .before .before .before .before .before .before .before .pre .0) (c .before .before .before .before .before .before .before .row-bytes .ensures .0) (c .before .before .before .before .before .before .before .row-bytes .ensures .1) (c .before .before .before .before .before .before .loop .inv .1) (c .before .before .before .before .before .before .loop .inv .2) (omega (arith, c .before .before .before .before .before .loop-test .taken)), c .before .before .before .before .before .before .before .before .before .before .before .before .pre .1 .0))
+pair-requires c κs = (((c .before .before .before .before .before .before .before .before .before .before .before .before .before .pre .0 .sized, c .before .before .before .before .before .before .before .before .before .before .before .before .before .pre .1 .1), (pair-clean (c .before .before .before .before .before .before .before .before .before .before .before .before .before .args .w) (c .before .before .before .before .before .before .before .before .before .before .before .before .before .args .h) (c .before .before .before .before .before .before .before .before .before .before .before .before .before .args .n) (c .before .before .before .before .before .before .loop .i) (c .before .before .before .before .before .before .before .row-bytes .result) (c .before .before .before .before .before .before .loop .at) (c .before .before .before .before .before .before .loop .x) (c .before .before .before .before .before .before .before .before .before .before .before .before .before .args .part .now) (c .before .before .before .before .before .before .before .before .before .before .before .before .before .args .sup .now) (c .before .before .before .before .before .before .before .before .before .before .before .before .before .args .rings .now) (c .before .before .before .before .before .before .before .before .before .before .before .before .before .pre .0) (c .before .before .before .before .before .before .before .row-bytes .ensures .0) (c .before .before .before .before .before .before .before .row-bytes .ensures .1) (c .before .before .before .before .before .before .loop .inv .1) (c .before .before .before .before .before .before .loop .inv .2) (omega (arith, c .before .before .before .before .before .loop-test .taken)), pair-count (c .before .before .before .before .before .before .before .before .before .before .before .before .before .args .w) (c .before .before .before .before .before .before .before .before .before .before .before .before .before .args .h) (c .before .before .before .before .before .before .before .before .before .before .before .before .before .args .n) (c .before .before .before .before .before .before .loop .i) (c .before .before .before .before .before .before .before .row-bytes .result) (c .before .before .before .before .before .before .loop .at) (c .before .before .before .before .before .before .loop .x) (c .before .before .before .before .before .before .before .before .before .before .before .before .before .args .part .now) (c .before .before .before .before .before .before .before .before .before .before .before .before .before .args .sup .now) (c .before .before .before .before .before .before .before .before .before .before .before .before .before .args .rings .now) (c .before .before .before .before .before .before .before .before .before .before .before .before .before .pre .0) (c .before .before .before .before .before .before .before .row-bytes .ensures .0) (c .before .before .before .before .before .before .before .row-bytes .ensures .1) (c .before .before .before .before .before .before .loop .inv .1) (c .before .before .before .before .before .before .loop .inv .2) (omega (arith, c .before .before .before .before .before .loop-test .taken)))), (pair-long (c .before .before .before .before .before .before .before .before .before .before .before .before .before .args .w) (c .before .before .before .before .before .before .before .before .before .before .before .before .before .args .h) (c .before .before .before .before .before .before .before .before .before .before .before .before .before .args .n) (c .before .before .before .before .before .before .loop .i) (c .before .before .before .before .before .before .before .row-bytes .result) (c .before .before .before .before .before .before .loop .at) (c .before .before .before .before .before .before .loop .x) (c .before .before .before .before .before .before .before .before .before .before .before .before .before .args .part .now) (c .before .before .before .before .before .before .before .before .before .before .before .before .before .args .sup .now) (c .before .before .before .before .before .before .before .before .before .before .before .before .before .args .rings .now) (c .before .before .before .before .before .before .before .before .before .before .before .before .before .pre .0) (c .before .before .before .before .before .before .before .row-bytes .ensures .0) (c .before .before .before .before .before .before .before .row-bytes .ensures .1) (c .before .before .before .before .before .before .loop .inv .1) (c .before .before .before .before .before .before .loop .inv .2) (omega (arith, c .before .before .before .before .before .loop-test .taken)), c .before .before .before .before .before .before .before .before .before .before .before .before .before .pre .1 .0))
 
 -- src/stack.rt:45:13
 both-requires : tie.Need-both-requires Inv-loop μ-loop
@@ -131,7 +131,7 @@ returns c = λ e. clash e refl
 
 -- src/stack.rt:50:9
 add-i : tie.Need-add-i Inv-loop μ-loop
-add-i c = omega (arith, c .before .before .before .before .before .before .before .before .before .before .before .before .before .before .before .pre .0 .n-high, c .before .before .before .before .before .before .before .before .loop-test .taken)
+add-i c = omega (arith, c .before .before .before .before .before .before .before .before .before .before .before .before .before .before .before .before .pre .0 .n-high, c .before .before .before .before .before .before .before .before .loop-test .taken)
 
 -- src/stack.rt:29:5
 loop-less : tie.Need-loop-less Inv-loop μ-loop
@@ -139,11 +139,11 @@ loop-less c = search needs
 
 -- src/stack.rt:29:5
 loop-again : tie.Need-loop-again Inv-loop μ-loop
-loop-again c = (omega (arith, c .before .before .before .before .before .before .before .before .loop-test .taken), stretch-next _ _ _ (c .before .before .before .before .before .before .before .before .before .loop .inv .1), stretch-next _ _ _ (c .before .before .before .before .before .before .before .before .before .loop .inv .2), fine-more (c .before .before .before .before .before .before .before .before .before .before .before .before .before .before .before .args .w) (c .before .before .before .before .before .before .before .before .before .before .before .before .before .before .before .args .h) (c .before .before .before .before .before .before .before .before .before .before .before .before .before .before .before .args .n) (c .before .before .before .before .before .before .before .before .before .loop .i) (c .before .before .before .before .before .before .before .before .before .before .row-bytes .result) (c .before .before .before .before .before .before .before .before .before .loop .at) (c .before .before .before .before .before .before .before .before .before .loop .x) (c .before .before .before .before .before .before .before .before .before .before .before .before .before .before .before .args .part .now) (c .before .before .before .before .before .before .before .before .before .before .before .before .before .before .before .args .sup .now) (c .before .before .before .before .before .before .before .before .before .before .before .before .before .before .before .args .rings .now) (c .before .before .before .before .before .before .before .before .before .before .before .before .before .before .before .pre .0) (c .before .before .before .before .before .before .before .before .before .before .row-bytes .ensures .0) (c .before .before .before .before .before .before .before .before .before .before .row-bytes .ensures .1) (c .before .before .before .before .before .before .before .before .before .loop .inv .1) (c .before .before .before .before .before .before .before .before .before .loop .inv .2) (omega (arith, c .before .before .before .before .before .before .before .before .loop-test .taken)) (c .before .before .before .before .before .before .before .before .before .before .before .before .before .before .before .args .q .0) (c .before .before .pair .result) (c .before .before .pair .ensures .0) (c .before .before .pair .ensures .1) (sym (c .before .both .ensures) ∙ not-false _ (c .if1 .left)) (c .before .before .before .before .before .before .before .before .before .loop .inv .3))
+loop-again c = (omega (arith, c .before .before .before .before .before .before .before .before .loop-test .taken), stretch-next _ _ _ (c .before .before .before .before .before .before .before .before .before .loop .inv .1), stretch-next _ _ _ (c .before .before .before .before .before .before .before .before .before .loop .inv .2), fine-more (c .before .before .before .before .before .before .before .before .before .before .before .before .before .before .before .before .args .w) (c .before .before .before .before .before .before .before .before .before .before .before .before .before .before .before .before .args .h) (c .before .before .before .before .before .before .before .before .before .before .before .before .before .before .before .before .args .n) (c .before .before .before .before .before .before .before .before .before .loop .i) (c .before .before .before .before .before .before .before .before .before .before .row-bytes .result) (c .before .before .before .before .before .before .before .before .before .loop .at) (c .before .before .before .before .before .before .before .before .before .loop .x) (c .before .before .before .before .before .before .before .before .before .before .before .before .before .before .before .before .args .part .now) (c .before .before .before .before .before .before .before .before .before .before .before .before .before .before .before .before .args .sup .now) (c .before .before .before .before .before .before .before .before .before .before .before .before .before .before .before .before .args .rings .now) (c .before .before .before .before .before .before .before .before .before .before .before .before .before .before .before .before .pre .0) (c .before .before .before .before .before .before .before .before .before .before .row-bytes .ensures .0) (c .before .before .before .before .before .before .before .before .before .before .row-bytes .ensures .1) (c .before .before .before .before .before .before .before .before .before .loop .inv .1) (c .before .before .before .before .before .before .before .before .before .loop .inv .2) (omega (arith, c .before .before .before .before .before .before .before .before .loop-test .taken)) (c .before .before .before .before .before .before .before .before .before .before .before .before .before .before .before .before .args .q .0) (c .before .before .pair .result) (c .before .before .pair .ensures .0) (c .before .before .pair .ensures .1) (sym (c .before .both .ensures) ∙ not-false _ (c .if1 .left)) (c .before .before .before .before .before .before .before .before .before .loop .inv .3))
 
 -- src/stack.rt:9:1
 returns-2 : tie.Need-returns-2 Inv-loop μ-loop
-returns-2 c = λ e y l. c .before .loop .inv .3 y (omega (arith, stretch-end (c .before .loop .i) (c .before .before .before .before .before .before .before .args .n - 1) (c .before .before .before .before .before .before .before .args .h * c .before .before .before .before .before .before .before .args .w) (c .before .loop .x) (c .before .loop .inv .2) (c .before .loop .inv .0) (omega (arith, c .loop-test .left))))
+returns-2 c = λ e y l. c .before .loop .inv .3 y (omega (arith, stretch-end (c .before .loop .i) (c .before .before .before .before .before .before .before .before .args .n - 1) (c .before .before .before .before .before .before .before .before .args .h * c .before .before .before .before .before .before .before .before .args .w) (c .before .loop .x) (c .before .loop .inv .2) (c .before .loop .inv .0) (omega (arith, c .loop-test .left))))
 
 pub pairs-spec : {M : Type 1} → statement M
 pairs-spec =
