@@ -154,16 +154,6 @@ sound-none w h q t disc low up ring p e =
 pub all-rows : (w h : ℕ) (P : ℕ → Type 0) → ((y : ℕ) → y < h → (c : ℕ) → c < w → P (y * w + c)) → (p : ℕ) → p < h * w → P p
 all-rows w h P all p l = let (lr, lc) = digits-in p h w l in subst P (div-add-mod' p w) (all (p / w) lr (p % w) lc)
 
--- no pixel hangs, by bytes
-pub none-unheld : (w h n : ℕ) (low up below above : List ℕ) (ring : ℕ → ℕ) → n ≡ h * rowBytes w → ((j : ℕ) → j < n → NoneHangs low up below above j)
-    → (p : ℕ) → p < h * w → unheldHere (packed w low) (packed w up) (packed w below) (packed w above) ring p ≡ false
-unfolding unheldHere packed
-none-unheld w h n low up below above ring e all p l =
-    let x : ℕ = p / w * rowBytes w in
-    let b : ((bitAt (getD up (x + p % w / 8) 0) (p % w % 8) || bitAt (getD above (x + p % w / 8) 0) (p % w % 8)) && not (bitAt (getD low (x + p % w / 8) 0) (p % w % 8) || bitAt (getD below (x + p % w / 8) 0) (p % w % 8))) ≡ false =
-    all (x + p % w / 8) (byte-of w h n p e l) (p % w % 8) (omega arith) in
-    rw (row-bit up x (p % w), row-bit above x (p % w), row-bit low x (p % w), row-bit below x (p % w), b)
-
 -- what is held, where anything hangs and where nothing does
 pub held-some : (some : Bool) (P : Type 0) → (some ≡ false → P) → (some ≡ true → P) → P
 held-some some P none any = split some any none

@@ -5,6 +5,7 @@ pub mod BitLaws
 pub mod Joined
 pub mod Holding
 pub mod Trust
+pub mod Hanging
 pub mod Layers
 pub mod Stacks
 pub mod Nearby

@@ -2,6 +2,7 @@
 // on: after a no the pixels are looked at one by one.
 pub mod bits;
 pub mod eights;
+pub mod hangs;
 pub mod layers;
 pub mod marks;
 pub mod near;

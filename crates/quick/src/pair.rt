@@ -3,36 +3,16 @@ use crate::Sure;
 use rules::Bound;
 use words::Row;
 ghost use mathlib.Core.Path.{_≡_};
-ghost use mathlib.Core.Bool.{true, false, not, _&&_, _||_};
+ghost use mathlib.Core.Bool.{true, false, _&&_};
 ghost use Prim.Native.Nat.{ℕ, _+_, _*_, _/_, _<_, _≤_};
 ghost use lib.ListN.{length, getD};
-ghost use Rattle.rules.specs.Images.{rowBytes, bitAt};
+ghost use Rattle.rules.specs.Images.{rowBytes};
 ghost use Rattle.laws.specs.Discs.{Halves};
 ghost use Rattle.image.specs.Rows.{packed, Clean};
 ghost use Rattle.words.specs.Words.{column};
 ghost use Rattle.planes.specs.Scratch.{Ready, Drawn, seen};
 ghost use Rattle.places.specs.Search.{Sized, badHere, unheldHere};
 ghost use Rattle.quick.specs.Sound.{Ones, Sound, Long, NoneHangs, Row-good, Row-held};
-
-fn hanging(up: u8, above: u8, low: u8, below: u8) -> u8
-    ensures { λ m. ⌜ ((k : ℕ) → k < 8 → bitAt m k ≡ ((bitAt up k || bitAt above k) && not (bitAt low k || bitAt below k))) ⌝ }
-{
-    (up | above) & !(low | below)
-}
-
-// Whether a pixel hangs, by n whole bytes.
-fn hangs(low: &[u8], up: &[u8], below: &[u8], above: &[u8], n: usize) -> bool
-    requires { ⌜ Long n (now low) (now up) (now below) (now above) ⌝ }
-    ensures { λ b. ⌜ (b ≡ false → (j : ℕ) → j < n → NoneHangs (now (low .entry)) (now (up .entry)) (now (below .entry)) (now (above .entry)) j) ⌝ }
-{
-    let mut all: u8 = 0;
-    let mut j = 0;
-    while j < n {
-        all = all | hanging(up[j], above[j], low[j], below[j]);
-        j += 1;
-    }
-    all != 0
-}
 
 // Row r, none of whose rings is larger than m. Rings of at most t are near by themselves, and others are held against the plane `disc`.
 fn ringed_row(
@@ -117,6 +97,7 @@ fn rows(
     above: &[u8],
     rings: &[u16],
     marks: &[u16],
+    over: &[u8],
     ones: &[u16],
     disc: &[u64],
     halves: &[usize],
@@ -124,18 +105,20 @@ fn rows(
     h: usize,
     q: Bound,
     t: u16,
-    some: bool,
 ) -> Sure
     requires fits { ⌜ Sized w h × (Clean w h (now low) × (Long (h * rowBytes w) (now low) (now up) (now below) (now above) × (length (now rings) ≡ h * w))) ⌝ }
     requires scratch { ⌜ (Ones (now ones) × Halves (q .0) (now halves)) × (Ready w h (now disc) × (q .0 ≤ 1024)) ⌝ }
     requires marked { ⌜ (257 ≤ length (now marks)) × ((p : ℕ) → p < h * w → getD (now rings) p 0 ≤ getD (now marks) (p / 256) 0) ⌝ }
+    requires hung { ⌜ (33 ≤ length (now over)) × ((j : ℕ) → j < h * rowBytes w → getD (now over) (j / 256) 0 ≡ 0 → NoneHangs (now low) (now up) (now below) (now above) j) ⌝ }
     ensures { λ s. ⌜ (s .rings ≡ true → (r : ℕ) → r < h → Row-good w h (q .0) t (seen w (now (disc .entry))) (now (low .entry)) (now (up .entry)) (now (rings .entry)) r) ⌝ }
-    ensures { λ s. ⌜ (s .held ≡ true → some ≡ true → (r : ℕ) → r < h → Row-held w (now (low .entry)) (now (up .entry)) (now (below .entry)) (now (above .entry)) (now (rings .entry)) r) ⌝ }
+    ensures { λ s. ⌜ (s .held ≡ true → (r : ℕ) → r < h → Row-held w (now (low .entry)) (now (up .entry)) (now (below .entry)) (now (above .entry)) (now (rings .entry)) r) ⌝ }
 {
+    let rb = limits::row_bytes(w);
     let mut held = true;
     let mut r = 0;
     while r < h {
         let m = crate::marks::joined(marks, r * w, w);
+        let some = crate::hangs::some(over, r * rb, rb);
         let s = row(low, up, below, above, rings, ones, disc, halves, w, h, r, q, t, m, some);
         if !s.rings {
             return Sure { rings: false, held: false };
@@ -165,16 +148,17 @@ pub fn pair(
     ensures { λ s. ⌜ (s .rings ≡ true → (p : ℕ) → p < h * w → badHere w h (q .0) (packed w (now (low .entry))) (packed w (now (up .entry))) (λ o. getD (now (rings .entry)) o 0) p ≡ false) ⌝ }
     ensures { λ s. ⌜ (s .held ≡ true → (p : ℕ) → p < h * w → unheldHere (packed w (now (low .entry))) (packed w (now (up .entry))) (packed w (now (below .entry))) (packed w (now (above .entry))) (λ o. getD (now (rings .entry)) o 0) p ≡ false) ⌝ }
 {
-    let some = hangs(low, up, below, above, h * limits::row_bytes(w));
+    let mut over = [0u8; 33];
+    let hung = crate::hangs::mark(low, up, below, above, &mut over, h * limits::row_bytes(w));
     let mut marks = [0u16; 257];
     let most = crate::marks::mark(rings, &mut marks, h * w);
     if most == 0 {
-        return Sure { rings: true, held: !some };
+        return Sure { rings: true, held: hung == 0 };
     }
     let mut disc = [0u64; 1610];
     if most <= t {
-        return rows(low, up, below, above, rings, &marks, ones, &disc, halves, w, h, q, t, some);
+        return rows(low, up, below, above, rings, &marks, &over, ones, &disc, halves, w, h, q, t);
     }
     crate::layers::read(low, &mut disc, w, h);
-    rows(low, up, below, above, rings, &marks, ones, &disc, halves, w, h, q, t, some)
+    rows(low, up, below, above, rings, &marks, &over, ones, &disc, halves, w, h, q, t)
 }
