@@ -1,20 +1,20 @@
 -- Laws of the eight neighbours, and of what lends a ring.
 use mathlib.Core.Path.{_≡_, refl, sym, _∙_}
-use mathlib.Core.Bool.{Bool, true, false, not, _&&_}
+use mathlib.Core.Bool.{Bool, true, false, not, _&&_, _||_}
 use mathlib.Core.List.{List}
 use Prim.Native.Nat.{ℕ, _+_, _-_, _*_, _/_, _%_, _<_, _≤_, min}
 use native.Mathlib.Nat.{div-add-mod'}
 use native.Mathlib.Omega.{arith}
-use lib.Dec.{ltb}
+use lib.Dec.{ltb, eqb}
 use lib.ListN.{getD}
 use borrow.Author.Tests.{ltb-true, ltb-false, eq-eqb, ne-eqb, lt-ltb, le-ltb}
 use Rattle.rules.specs.Images.{Plane, rowBytes}
-use Rattle.rules.specs.Planning.{shadow, seeds, source, touch, touching}
+use Rattle.rules.specs.Planning.{shadow, near, seeds, source, reached, touch, touching, fits}
 use Rattle.laws.specs.Tests.{split, clash, and-in, some-in}
 use Rattle.laws.specs.Places.{digits-in}
 use Rattle.laws.specs.Neighbours.{Touching, touch-out, touch-in}
-use Rattle.places.specs.Search.{bitIn, badBy, lender}
-use Rattle.places.specs.BitLaws.{and-true}
+use Rattle.places.specs.Search.{bitIn, badHere, unheldHere, lender}
+use Rattle.places.specs.BitLaws.{and-true, and-false}
 use Rattle.places.specs.Planes.{row-in, plane-at, in-plane}
 use Rattle.image.specs.Rows.{packed}
 use Rattle.places.specs.Finding.{some-none}
@@ -89,56 +89,64 @@ row-more w h r c f y x all here past n l b d m lm a e =
 abbrev pub leans : ℕ → ℕ → Plane → Plane → (ℕ → ℕ) → Plane
 leans w h low up ring p = touching (h * w) (touch w) (source (seeds low up) ring (ring p - 1)) p
 
-module _ (w h : ℕ) (close low up : Plane) (ring : ℕ → ℕ) (p : ℕ) where
-  bad-is : 0 < ring p → (u l n s : Bool) → up p ≡ u → low p ≡ l → close p ≡ n → leans w h low up ring p ≡ s → badBy w h close low up ring p ≡ not (u && not l && n && s)
-  unfolding badBy shadow
+module _ (w h q : ℕ) (low up : Plane) (ring : ℕ → ℕ) (p : ℕ) where
+  bad-is : 0 < ring p → (u l n s : Bool) → up p ≡ u → low p ≡ l → near w h q low p ≡ n → leans w h low up ring p ≡ s → badHere w h q low up ring p ≡ not (u && not l && n && s)
+  unfolding badHere fits reached shadow
   bad-is b u l n s eu el en es = rw (lt-ltb 0 (ring p) b, eu, el, en, es)
 
-  pub no-ring : ring p ≡ 0 → badBy w h close low up ring p ≡ false
-  unfolding badBy
+  pub no-ring : ring p ≡ 0 → false ≡ badHere w h q low up ring p
+  unfolding badHere
   no-ring e = rw (le-ltb 0 (ring p) (omega arith))
 
-  pub not-above : 0 < ring p → up p ≡ false → true ≡ badBy w h close low up ring p
+  pub not-above : 0 < ring p → up p ≡ false → true ≡ badHere w h q low up ring p
   not-above b u = sym (bad-is b false _ _ _ u refl refl refl)
 
-  pub in-low : 0 < ring p → up p ≡ true → low p ≡ true → true ≡ badBy w h close low up ring p
+  pub in-low : 0 < ring p → up p ≡ true → low p ≡ true → true ≡ badHere w h q low up ring p
   in-low b u l = sym (bad-is b true true _ _ u l refl refl)
 
   not-and : (n : Bool) → not (n && false) ≡ true
   not-and true = refl
   not-and false = refl
 
-  pub untouched : 0 < ring p → up p ≡ true → low p ≡ false → leans w h low up ring p ≡ false → true ≡ badBy w h close low up ring p
-  untouched b u l s = sym (bad-is b true false _ false u l refl s ∙ not-and (close p))
+  pub untouched : 0 < ring p → up p ≡ true → low p ≡ false → leans w h low up ring p ≡ false → true ≡ badHere w h q low up ring p
+  untouched b u l s = sym (bad-is b true false _ false u l refl s ∙ not-and (near w h q low p))
 
-  pub by-close : 0 < ring p → up p ≡ true → low p ≡ false → leans w h low up ring p ≡ true → (n : Bool) → close p ≡ n → not n ≡ badBy w h close low up ring p
-  by-close b u l s n en = sym (bad-is b true false n true u l en s ∙ rw (and-true n))
+  pub by-near : 0 < ring p → up p ≡ true → low p ≡ false → leans w h low up ring p ≡ true → (n : Bool) → near w h q low p ≡ n → not n ≡ badHere w h q low up ring p
+  by-near b u l s n en = sym (bad-is b true false n true u l en s ∙ rw (and-true n))
+
+-- The five tests of a pixel that may be unheld ---------------------------------------------------------------------------------
+
+or-true : (a : Bool) → (a || true) ≡ true
+or-true true = refl
+or-true false = refl
+
+module _ (low up below above : Plane) (ring : ℕ → ℕ) (p : ℕ) where
+  pub held-ring : (ring p ≡ 0 → ⊥) → false ≡ unheldHere low up below above ring p
+  unfolding unheldHere
+  held-ring ne = rw (ne-eqb (ring p) 0 ne, and-false ((up p || above p) && not (low p || below p)))
+
+  pub held-low : low p ≡ true → false ≡ unheldHere low up below above ring p
+  unfolding unheldHere
+  held-low l = rw (l, and-false (up p || above p))
+
+  pub held-below : below p ≡ true → false ≡ unheldHere low up below above ring p
+  unfolding unheldHere
+  held-below b = rw (b, or-true (low p), and-false (up p || above p))
+
+  pub unheld-up : ring p ≡ 0 → low p ≡ false → below p ≡ false → up p ≡ true → true ≡ unheldHere low up below above ring p
+  unfolding unheldHere
+  unheld-up z l b u = rw (eq-eqb (ring p) 0 z, l, b, u)
+
+  pub unheld-above : ring p ≡ 0 → low p ≡ false → below p ≡ false → up p ≡ false → above p ≡ unheldHere low up below above ring p
+  unfolding unheldHere
+  unheld-above z l b u = rw (eq-eqb (ring p) 0 z, l, b, u, and-true (above p), and-true (above p))
 
 -- a pixel of a plane, as the code reads it
 pub pixel-is : (w : ℕ) (s : List ℕ) (r c rb : ℕ) (b : Bool) → c < w → rb ≡ rowBytes w → b ≡ bitIn s (r * rb) c → packed w s (r * w + c) ≡ b
 pixel-is w s r c rb b lc er e = plane-at w s r c lc ∙ rw (← er) (sym e)
-
--- A row without rings ----------------------------------------------------------------------------------------------------
-
-module _ (w h : ℕ) (close low up : Plane) (rings : List ℕ) where
-  pub quiet-row : (r x : ℕ) → x ≡ r * w → ((j : ℕ) → j < w → getD rings (x + j) 0 ≡ 0) → (y : ℕ) → 0 ≤ y → y < w → badBy w h close low up (λ o. getD rings o 0) (r * w + y) ≡ false
-  quiet-row r x e all y a l = no-ring w h close low up (λ o. getD rings o 0) (r * w + y) (rw (← e) (all y l))
 
 -- what `touches` tells, for the ring that the pixel has
 pub leans-is : (w h : ℕ) (low up rings : List ℕ) (p k : ℕ) → k ≡ getD rings p 0 → (b : Bool) → b ≡ touching (h * w) (touch w) (lender w low up rings k) p →
     leans w h (packed w low) (packed w up) (λ o. getD rings o 0) p ≡ b
 unfolding lender
 leans-is w h low up rings p k ek b e = rw (← ek) (sym e)
-
-pub bad-row : (w h : ℕ) (close low up : Plane) (ring : ℕ → ℕ) (r x : ℕ) → x ≡ r * w → (c : ℕ) → c < w → badBy w h close low up ring (x + c) ≡ badBy w h close low up ring (r * w + c)
-bad-row w h close low up ring r x e c l = rw e
-
--- eight columns without rings
-pub quiet-eight : (w h : ℕ) (close low up : Plane) (rings : List ℕ) (r c : ℕ) → ((j : ℕ) → j < 8 → getD rings (r * w + c + j) 0 ≡ 0) →
-    ((y : ℕ) → 0 ≤ y → y < c → badBy w h close low up (λ o. getD rings o 0) (r * w + y) ≡ false) →
-    (y : ℕ) → 0 ≤ y → y < c + 8 → badBy w h close low up (λ o. getD rings o 0) (r * w + y) ≡ false
-quiet-eight w h close low up rings r c all before y z l =
-    split (ltb y c) (λ b. before y z (ltb-true y c b)) (λ b.
-    let g : c ≤ y = ltb-false y c b in
-    let e : r * w + c + (y - c) ≡ r * w + y = omega arith in
-    no-ring w h close low up (λ o. getD rings o 0) (r * w + y) (rw e at (all (y - c) (omega arith))))

@@ -1,5 +1,4 @@
--- Laws of bad rings.
+-- What the contracts cite.
+pub mod Amiss
+-- Laws about it.
 pub mod Eight
-pub mod Scratch
-pub mod Trust
-pub mod Holding

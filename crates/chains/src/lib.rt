@@ -1,7 +1,4 @@
-// The first bad ring of a stack: a quick test by rows that none is bad, and the search for the first one where some is.
-pub mod firsts;
+// The first bad ring and the first unheld pixel of a stack: pair by pair, and only where the quick test is not sure pixel by pixel.
 pub mod leaning;
-pub mod marks;
-pub mod rings;
-pub mod sound;
-pub mod steps;
+pub mod pixels;
+pub mod search;

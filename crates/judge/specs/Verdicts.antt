@@ -23,7 +23,9 @@ use Rattle.laws.specs.Refusals.{numbered, orElse, else-none, else-some, refusal
 use Rattle.laws.specs.Limits.{Ranged, ranged}
 use Rattle.laws.specs.Demand3.{fine-out}
 use Rattle.places.specs.Search.{Least, flat, padCases, Sized}
-use Rattle.places.specs.Finding.{least-found, least-nothing}
+use Rattle.places.specs.Finding.{least-found, least-nothing, least-none}
+use Rattle.quick.specs.Sound.{Whole, Fine}
+use Rattle.chains.specs.Amiss.{amissIn}
 
 -- The refusals ------------------------------------------------------------------------------------------------------------
 
@@ -148,10 +150,9 @@ reach-fits s r g e =
     let l : r .0 ≤ 32 = omega (arith, ap (λ (x : Pixels). x .0) e) in
     mul-le-mul l l
 
-pub bound-is : (s : Settings) (r : Pixels) (w h n b : ℕ) (part : Stack) (ring : ℕ → ℕ → ℕ) → r ≡ reachOf (s .pitch) (s .overhang) →
-    Least 0 n (flat w h (badRing w h (λ (i : ℕ). r .0 * r .0) part ring)) b → Least 0 n (flat w h (badRing w h (boundOf s) part ring)) b
+pub bound-is : (s : Settings) (r : Pixels) → r ≡ reachOf (s .pitch) (s .overhang) → boundOf s ≡ (λ (i : ℕ). r .0 * r .0)
 unfolding boundOf square
-bound-is s r w h n b part ring e l = subst (λ (x : Pixels). Least 0 n (flat w h (badRing w h (λ (i : ℕ). x .0 * x .0) part ring)) b) e l
+bound-is s r e = rw e
 
 pub pixels-most : (s : Settings) → Ranged s → s .n * (s .h * s .w) ≤ 33554432
 pixels-most s r = mul-le-mul (r .n-high) (mul-le-mul (r .h-high) (r .w-high))
@@ -163,6 +164,31 @@ verdict-ready s part sup rings e =
     let f = fine-out s part sup (length rings) e in
     (ranged s (f .settings), (f .part-length, (f .sup-length, (f .part-clear, f .ring-count))))
 
-pub part-clear : (s : Settings) (part : List ℕ) → paddingSet (s .w) (rowsOf s) part ≡ false → paddingSet (s .w) (s .n * s .h) part ≡ false
-unfolding rowsOf
-part-clear s part e = e
+-- the stack, as the searches take it
+pub whole-of : (s : Settings) (part sup rings : List ℕ) → Ranged s × ((length part ≡ stackBytes s) × ((length sup ≡ stackBytes s) × ((paddingSet (s .w) (rowsOf s) part ≡ false) × (length rings ≡ ringsIn s))))
+    → Whole (s .w) (s .h) (s .n) part sup rings
+unfolding stackBytes rowsOf ringsIn
+whole-of s part sup rings (r, (p, (u, (e, l)))) =
+    record { sized = plane-sized s r; n-low = r .n-low; n-high = r .n-high; part-long = p; sup-long = u; clear = e; rings-long = l }
+
+-- what the searches look for is what the rules call bad, or unheld
+module _ (s : Settings) (q : ℕ) (part sup rings : List ℕ) (e : boundOf s ≡ (λ (i : ℕ). q)) (r : ℕ) where
+  pub first-bad : Least 0 ((s .n - 1) * (s .h * s .w)) (flat (s .w) (s .h) (amissIn true (s .w) (s .h) q part sup rings)) r
+      → Least 0 ((s .n - 1) * (s .h * s .w)) (flat (s .w) (s .h) (badRing (s .w) (s .h) (boundOf s) (pixel (s .w) (s .h) part) (ringAt (s .w) (s .h) rings))) r
+  unfolding amissIn
+  first-bad l = rw e l
+
+  pub first-unheld : Least 0 ((s .n - 1) * (s .h * s .w)) (flat (s .w) (s .h) (amissIn false (s .w) (s .h) q part sup rings)) r
+      → Least 0 ((s .n - 1) * (s .h * s .w)) (flat (s .w) (s .h) (unheld (pixel (s .w) (s .h) part) (pixel (s .w) (s .h) sup) (ringAt (s .w) (s .h) rings))) r
+  unfolding amissIn
+  first-unheld l = l
+
+-- where the quick test is sure there is nothing to tell
+pub told-sure : (s : Settings) (q : ℕ) (part sup rings : List ℕ) (o : ℕ) → boundOf s ≡ (λ (i : ℕ). q)
+    → Least 0 (s .n * (s .h * s .w)) (flat (s .w) (s .h) (overlap (pixel (s .w) (s .h) part) (pixel (s .w) (s .h) sup))) o → s .n * (s .h * s .w) ≤ o
+    → ((x : ℕ) → x < (s .n - 1) * (s .h * s .w) → Fine (s .w) (s .h) q part sup rings x) → Accepted ≡ verdictOf (s .w) (s .h) (s .n) (boundOf s) part sup rings
+told-sure s q part sup rings o e so n fine =
+    let m : ℕ = (s .n - 1) * (s .h * s .w) in
+    told-accepted (s .w) (s .h) (s .n) (boundOf s) part sup rings o so n m
+    (least-none 0 m _ (omega arith) (λ x a l. rw e (fine x l .0))) (omega arith) m
+    (least-none 0 m _ (omega arith) (λ x a l. fine x l .1)) (omega arith)

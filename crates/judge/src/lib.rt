@@ -1,19 +1,20 @@
 // The checker, 'Judging a stack' of document 01: the call and its verdict.
 pub mod refusals;
 
+use rules::Bound;
 use rules::Judged;
 use rules::Place;
 use rules::Settings;
 ghost use mathlib.Core.Path.{_≡_};
 ghost use mathlib.Core.Bool.{false};
-ghost use Prim.Native.Nat.{_-_, _*_, _<_, _≤_};
+ghost use Prim.Native.Nat.{ℕ, _<_, _≤_};
 ghost use lib.ListN.{length};
-ghost use Rattle.rules.specs.Images.{pixel, rowsOf, stackBytes, paddingSet, ringsIn, ringAt};
+ghost use Rattle.rules.specs.Images.{rowsOf, stackBytes, paddingSet, ringsIn};
 ghost use Rattle.rules.specs.Reach.{boundOf};
-ghost use Rattle.rules.specs.Judging.{badRing, placeOf, verdictOf};
+ghost use Rattle.rules.specs.Judging.{placeOf, verdictOf};
 ghost use Rattle.rules.specs.Outcomes.{Judges};
 ghost use Rattle.laws.specs.Limits.{Ranged};
-ghost use Rattle.places.specs.Search.{Least, flat, Sized};
+ghost use Rattle.places.specs.Search.{Sized};
 
 fn place_of(x: usize, w: usize, h: usize, up: usize) -> Place
     requires { ⌜ Sized w h × ((x < 4294967296) × (up ≤ 1)) ⌝ }
@@ -26,18 +27,19 @@ fn place_of(x: usize, w: usize, h: usize, up: usize) -> Place
     }
 }
 
-// The first bad ring of a stack that is not refused.
-fn bad_ring(s: Settings, part: &[u8], rings: &[u16]) -> usize
-    requires { ⌜ Ranged s × ((length (now part) ≡ stackBytes s) × ((paddingSet (s .w) (rowsOf s) (now part) ≡ false) × (length (now rings) ≡ ringsIn s))) ⌝ }
-    ensures { λ r. ⌜ Least 0 ((s .n - 1) * (s .h * s .w)) (flat (s .w) (s .h) (badRing (s .w) (s .h) (boundOf s) (pixel (s .w) (s .h) (now (part .entry))) (ringAt (s .w) (s .h) (now (rings .entry))))) r ⌝ }
+// The bound on squared distances.
+fn bound(s: Settings) -> Bound
+    requires { ⌜ Ranged s ⌝ }
+    ensures { λ q. ⌜ (boundOf s ≡ (λ (i : ℕ). q .0)) × (q .0 ≤ 1024) ⌝ }
 {
     let pitch = s.pitch;
     let overhang = s.overhang;
     let reach = limits::reach_of(pitch, overhang);
-    chains::rings::bad_within(part, rings, s.w, s.h, s.n, reach.0 * reach.0)
+    Bound(reach.0 * reach.0)
 }
 
 // What is found in a stack that is not refused: overlap anywhere before any bad ring, and any bad ring before any unheld pixel.
+// Most stacks are accepted by the quick test; only where it is not sure the two searches are made.
 fn verdict(s: Settings, part: &[u8], support: &[u8], rings: &[u16]) -> Judged
     requires { ⌜ Ranged s × ((length (now part) ≡ stackBytes s) × ((length (now support) ≡ stackBytes s) × ((paddingSet (s .w) (rowsOf s) (now part) ≡ false) × (length (now rings) ≡ ringsIn s)))) ⌝ }
     ensures { λ r. ⌜ r ≡ verdictOf (s .w) (s .h) (s .n) (boundOf s) (now (part .entry)) (now (support .entry)) (now (rings .entry)) ⌝ }
@@ -52,11 +54,15 @@ fn verdict(s: Settings, part: &[u8], support: &[u8], rings: &[u16]) -> Judged
     if o < pixels {
         return Judged::RefusedAt(9, place_of(o, w, h, 0));
     }
-    let b = bad_ring(s, part, rings);
+    let q = bound(s);
+    if quick::stack::sure(part, support, rings, w, h, n, q) {
+        return Judged::Accepted;
+    }
+    let b = chains::search::first(part, support, rings, w, h, n, q, true);
     if b < pairs {
         return Judged::RefusedAt(10, place_of(b, w, h, 1));
     }
-    let u = places::hangs::unheld_at(part, support, rings, w, h, n);
+    let u = chains::search::first(part, support, rings, w, h, n, q, false);
     if u < pairs {
         return Judged::RefusedAt(11, place_of(u, w, h, 1));
     }

@@ -15,7 +15,7 @@ use Rattle.rules.specs.Judging.{overlap, badRing, unheld}
 use Rattle.laws.specs.Places.{digits-in}
 use Rattle.image.specs.Rows.{packed}
 use Rattle.image.specs.Packed.{row-bit}
-use Rattle.places.specs.Search.{flat, bitIn, overlapHere, badHere, unheldHere, overlapIn, bareIn, bareHere}
+use Rattle.places.specs.Search.{flat, bitIn, overlapHere, badHere, unheldHere, overlapIn}
 
 -- Rows of a plane -----------------------------------------------------------------------------------------------------
 
@@ -34,10 +34,6 @@ pub overlap-row : (w : ℕ) (part sup : List ℕ) (r at rb x : ℕ) → at ≡ r
     overlapHere (packed w part) (packed w sup) (x + c) ≡ overlapIn part sup at c
 unfolding overlapHere overlapIn
 overlap-row w part sup r at rb x ea er ex c l = rw (ex, ea, er, plane-at w part r c l, plane-at w sup r c l)
-
-pub bare-row : (w : ℕ) (m rings : List ℕ) (r at rb x : ℕ) → at ≡ r * rb → rb ≡ rowBytes w → x ≡ r * w → (c : ℕ) → c < w → bareHere w m rings (x + c) ≡ bareIn m rings at x c
-unfolding bareHere bareIn
-bare-row w m rings r at rb x ea er ex c l = rw (ex, ea, er, plane-at w m r c l)
 
 -- Planes of a stack ---------------------------------------------------------------------------------------------------
 

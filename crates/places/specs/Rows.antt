@@ -12,7 +12,7 @@ use lib.ListN.{getD, length, set}
 use borrow.Author.Count.{below-more}
 use Rattle.rules.specs.Images.{rowBytes, bitAt}
 use Rattle.laws.specs.Places.{digits-in}
-use Rattle.places.specs.Search.{Least, bitIn, overlapHere, unheldHere, overlapIn, bareIn, bareHere, Hangs, Sized}
+use Rattle.places.specs.Search.{Least, bitIn, overlapHere, overlapIn, Sized}
 use Rattle.places.specs.BitLaws.{byte-in, no-bit}
 use Rattle.places.specs.Finding.{least-none}
 use Rattle.image.specs.Bits.{bit-and, stored-more, or-none}
@@ -28,10 +28,6 @@ unfolding overlapIn
 overlap-byte part sup at c b j z e l =
     ap₂ (λ (u v : Bool). u && v) (byte-in sup at c j z l) (byte-in part at c j z l) ∙ rw (← e) (sym (bit-and (getD sup b 0) (getD part b 0) j))
 
-pub bare-byte : (m rings : List ℕ) (at x c b j : ℕ) → c % 8 ≡ 0 → b ≡ at + c / 8 → j < 8 → bareIn m rings at x (c + j) ≡ (bitAt (getD m b 0) j && eqb (getD rings (x + c + j) 0) 0)
-unfolding bareIn
-bare-byte m rings at x c b j z eb l = let i : x + (c + j) ≡ x + c + j = omega arith in rw (i, byte-in m at c j z l, eb)
-
 -- what is gathered by `or` is 0 only where each part is
 pub gather-more : (P : ℕ → Type 0) (j acc m : ℕ) → (acc ≡ 0 → (k : ℕ) → k < j → P k) → (m ≡ 0 → P j) → bitOr acc m ≡ 0 → (k : ℕ) → k < j + 1 → P k
 gather-more P j acc m all here e =
@@ -43,7 +39,7 @@ pub apart-byte : (x y m : ℕ) → m ≡ bitAnd x y → m ≡ 0 → (k : ℕ) �
 apart-byte x y m e z k l = sym (bit-and x y k) ∙ no-bit (bitAnd x y) k (sym e ∙ z)
 
 -- the byte of a pixel
-byte-of : (w h n p : ℕ) → n ≡ h * rowBytes w → p < h * w → p / w * rowBytes w + p % w / 8 < n
+pub byte-of : (w h n p : ℕ) → n ≡ h * rowBytes w → p < h * w → p / w * rowBytes w + p % w / 8 < n
 unfolding rowBytes
 byte-of w h n p e l = let (lr, lc) = digits-in p h w l in rw e (digits-lt lr (omega arith))
 
@@ -58,81 +54,6 @@ apart-none part sup w h n e all =
 pub byte-room : (w c at b len : ℕ) → c < w → b ≡ at + c / 8 → at + rowBytes w ≤ len → b < len
 unfolding rowBytes
 byte-room w c at b len l e h = omega arith
-
--- a row, and eight pixels, in which nothing hangs
-pub no-bare : (m rings : List ℕ) (at x w rb : ℕ) → rb ≡ rowBytes w → ((j : ℕ) → at * 8 ≤ j → j < (at + rb) * 8 → bitOf m j ≡ false) → Least 0 w (bareIn m rings at x) w
-unfolding bareIn bitIn rowBytes
-no-bare m rings at x w rb e all =
-    least-none 0 w _ (omega arith) (λ y a l.
-    let b : bitAt (getD m (at + y / 8) 0) (y % 8) ≡ false = sym (row-bit m at y) ∙ all (at * 8 + y) (omega arith) (omega arith) in
-    rw b)
-
-pub no-bare-eight : (m x : ℕ) (rings : List ℕ) → m ≡ 0 → Least 0 8 (λ k. bitAt m k && eqb (getD rings (x + k) 0) 0) 8
-no-bare-eight m x rings e = least-none 0 8 _ (omega arith) (λ k a l. rw (no-bit m k e))
-
--- the rest of a row from column c on, as a row of its own
-pub bare-shift : (m rings : List ℕ) (at x c b j : ℕ) → c % 8 ≡ 0 → b ≡ at + c / 8 → bareIn m rings at x (c + j) ≡ bareIn m rings b (x + c) j
-unfolding bareIn bitIn
-bare-shift m rings at x c b j z e =
-    let i : at + (c + j) / 8 ≡ b + j / 8 = omega arith in
-    let k : (c + j) % 8 ≡ j % 8 = omega arith in
-    let y : x + (c + j) ≡ x + c + j = omega arith in
-    rw (i, k, y)
-
-pub rest-room : (w c at b len : ℕ) → c % 8 ≡ 0 → c ≤ w → b ≡ at + c / 8 → at + rowBytes w ≤ len → b + rowBytes (w - c) ≤ len
-unfolding rowBytes
-rest-room w c at b len z l e h = omega arith
-
--- the bytes of 32 columns from column c on
-pub four-room : (w c at b len : ℕ) → c % 8 ≡ 0 → c + 32 ≤ w → b ≡ at + c / 8 → at + rowBytes w ≤ len → b + 4 ≤ len
-unfolding rowBytes
-four-room w c at b len z l e h = omega arith
-
-pub four-bytes : (b len : ℕ) → b + 4 ≤ len → b + rowBytes 32 ≤ len
-unfolding rowBytes
-four-bytes b len l = omega arith
-
-four-zero : (f : ℕ → ℕ) (b : ℕ) → f b ≡ 0 → f (b + 1) ≡ 0 → f (b + 2) ≡ 0 → f (b + 3) ≡ 0 → (k : ℕ) → k < 4 → f (b + k) ≡ 0
-four-zero f b e₀ e₁ e₂ e₃ zero l = let z : b + 0 ≡ b = omega arith in rw z e₀
-four-zero f b e₀ e₁ e₂ e₃ (suc zero) l = e₁
-four-zero f b e₀ e₁ e₂ e₃ (suc (suc zero)) l = e₂
-four-zero f b e₀ e₁ e₂ e₃ (suc (suc (suc zero))) l = e₃
-four-zero f b e₀ e₁ e₂ e₃ (suc (suc (suc (suc k)))) l = absurd (omega arith)
-
-pub no-bare-four : (m rings : List ℕ) (b x : ℕ) → bitOr (bitOr (bitOr (getD m b 0) (getD m (b + 1) 0)) (getD m (b + 2) 0)) (getD m (b + 3) 0) ≡ 0 → Least 0 32 (bareIn m rings b x) 32
-unfolding bareIn bitIn
-no-bare-four m rings b x e =
-    let (e₃, z₃) = or-none (bitOr (bitOr (getD m b 0) (getD m (b + 1) 0)) (getD m (b + 2) 0)) (getD m (b + 3) 0) e in
-    let (e₂, z₂) = or-none (bitOr (getD m b 0) (getD m (b + 1) 0)) (getD m (b + 2) 0) e₃ in
-    let (z₀, z₁) = or-none (getD m b 0) (getD m (b + 1) 0) e₂ in
-    least-none 0 32 _ (omega arith) (λ y a l. rw (no-bit (getD m (b + y / 8) 0) (y % 8) (four-zero (λ i. getD m i 0) b z₀ z₁ z₂ z₃ (y / 8) (omega arith))))
-
--- one more byte of what hangs is stored, and gathered
-pub gather-stored : (out : List ℕ) (j acc m : ℕ) → j < length out → (acc ≡ 0 → (k : ℕ) → k < j → getD out k 0 ≡ 0) → bitOr acc m ≡ 0 → (k : ℕ) → k < j + 1 → getD (set out j m) k 0 ≡ 0
-gather-stored out j acc m l all e =
-    let a : acc ≡ 0 = omega (arith, or-add-and acc m, and-le-r acc m) in
-    let b : m ≡ 0 = omega (arith, or-add-and acc m, and-le-l acc m) in
-    stored-more (λ k v. v ≡ 0) out j m l (all a) b
-
--- the plane of what hangs
-module _ (low up below above m rings : List ℕ) (w h n : ℕ) (e : n ≡ h * rowBytes w) (hg : Hangs low up below above n m) where
-  bare-plane : (p : ℕ) → p < h * w → bareHere w m rings p ≡ unheldHere (packed w low) (packed w up) (packed w below) (packed w above) (λ o. getD rings o 0) p
-  unfolding bareHere unheldHere packed
-  bare-plane p l =
-      let x : ℕ = p / w * rowBytes w in
-      rw (row-bit m x (p % w), row-bit up x (p % w), row-bit above x (p % w), row-bit low x (p % w), row-bit below x (p % w), hg .is (p / w * rowBytes w + p % w / 8) (byte-of w h n p e l) (p % w % 8) (omega arith))
-
-  pub bare-unheld : (r : ℕ) → Least 0 (h * w) (bareHere w m rings) r → Least 0 (h * w) (unheldHere (packed w low) (packed w up) (packed w below) (packed w above) (λ o. getD rings o 0)) r
-  bare-unheld r s =
-      let b : r ≤ h * w = s .bound in
-      record { low = s .low; bound = b; before = λ y a l. sym (bare-plane y (omega arith)) ∙ s .before y a l; at = λ l. sym (bare-plane r l) ∙ s .at l }
-
-  no-bit-here : ((j : ℕ) → j < n → getD m j 0 ≡ 0) → (p : ℕ) → p < h * w → bareHere w m rings p ≡ false
-  unfolding bareHere packed
-  no-bit-here all p l = rw (row-bit m (p / w * rowBytes w) (p % w), no-bit (getD m (p / w * rowBytes w + p % w / 8) 0) (p % w % 8) (all (p / w * rowBytes w + p % w / 8) (byte-of w h n p e l)))
-
-  pub nothing-hangs : ((j : ℕ) → j < n → getD m j 0 ≡ 0) → Least 0 (h * w) (unheldHere (packed w low) (packed w up) (packed w below) (packed w above) (λ o. getD rings o 0)) (h * w)
-  nothing-hangs all = bare-unheld (h * w) (least-none 0 (h * w) _ (omega arith) (λ p a l. no-bit-here all p l))
 
 -- Row by row and plane by plane -------------------------------------------------------------------------------------------
 

@@ -33,29 +33,12 @@ overlapHere part sup p = sup p && part p
 unfoldable pub badHere : ℕ → ℕ → ℕ → Plane → Plane → (ℕ → ℕ) → Plane
 badHere w h q low up ring p = ltb 0 (ring p) && not (fits (h * w) (touch w) (reached w h q low up) (seeds low up) ring (ring p - 1) p)
 
--- the same where the pixels of `close` are taken for near
-unfoldable pub badBy : ℕ → ℕ → Plane → Plane → Plane → (ℕ → ℕ) → Plane
-badBy w h close low up ring p =
-    ltb 0 (ring p) && not (shadow low up p && close p && touching (h * w) (touch w) (source (seeds low up) ring (ring p - 1)) p)
-
 unfoldable pub unheldHere : Plane → Plane → Plane → Plane → (ℕ → ℕ) → Plane
 unheldHere low up below above ring p = (up p || above p) && not (low p || below p) && eqb (ring p) 0
 
--- the same in the row whose bytes start at `at` and whose rings start at x
+-- overlap in the row whose bytes start at `at`
 unfoldable pub overlapIn : List ℕ → List ℕ → ℕ → ℕ → Bool
 overlapIn part sup at c = bitIn sup at c && bitIn part at c
-
--- a pixel of the plane m, or of its row whose bytes start at `at` and whose rings start at x, that has no ring
-unfoldable pub bareHere : ℕ → List ℕ → List ℕ → Plane
-bareHere w m rings p = packed w m p && eqb (getD rings p 0) 0
-
-unfoldable pub bareIn : List ℕ → List ℕ → ℕ → ℕ → ℕ → Bool
-bareIn m rings at x c = bitIn m at c && eqb (getD rings (x + c) 0) 0
-
--- the first n bytes of m have the pixels that hang: set in one of the upper two, and in neither of the lower two
-pub record Hangs (low up below above : List ℕ) (n : ℕ) (m : List ℕ) : Type 0 where
-  pub is : (j : ℕ) → j < n → (k : ℕ) → k < 8 →
-      bitAt (getD m j 0) k ≡ ((bitAt (getD up j 0) k || bitAt (getD above j 0) k) && not (bitAt (getD low j 0) k || bitAt (getD below j 0) k))
 
 -- what a pixel of ring k must touch
 unfoldable pub lender : ℕ → List ℕ → List ℕ → List ℕ → ℕ → Plane

@@ -1,9 +1,7 @@
 // Bits of bytes and pixels of rows, and the first of them that passes.
 ghost use mathlib.Core.Path.{_≡_};
-ghost use mathlib.Core.Bool.{_&&_};
 ghost use Prim.Native.Nat.{_+_, _-_, _/_, _<_, _≤_, min};
-ghost use lib.Dec.{eqb};
-ghost use lib.ListN.{length, getD};
+ghost use lib.ListN.{length};
 ghost use Rattle.rules.specs.Images.{bitAt};
 ghost use Rattle.places.specs.Search.{Least, bitIn};
 
@@ -38,28 +36,6 @@ pub fn bit_from(m: u8, from: usize, to: usize) -> usize
     let mut k = from;
     while k < to {
         if bit(m, k) {
-            return k;
-        }
-        k += 1;
-    }
-    to
-}
-
-fn bare(m: u8, ring: u16, k: usize) -> bool
-    requires { ⌜ k < 8 ⌝ }
-    ensures { λ b. ⌜ b ≡ (bitAt m k && eqb ring 0) ⌝ }
-{
-    if ring == 0 { bit(m, k) } else { false }
-}
-
-// The first bit that is set and has ring 0, before `to`; or `to`. The rings of the byte start at x.
-pub fn bare_bit(m: u8, rings: &[u16], x: usize, to: usize) -> usize
-    requires { ⌜ (to ≤ 8) × (x + to ≤ length (now rings)) ⌝ }
-    ensures { λ r. ⌜ Least 0 to (λ k. bitAt m k && eqb (getD (now (rings .entry)) (x + k) 0) 0) r ⌝ }
-{
-    let mut k = 0;
-    while k < to {
-        if bare(m, rings[x + k], k) {
             return k;
         }
         k += 1;

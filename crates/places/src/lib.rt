@@ -1,5 +1,3 @@
-// The first overlap and the first unheld pixel of a stack: by whole bytes where nothing is amiss, and then by bits.
+// The first overlap of a stack: by whole bytes where there is none, and then by bits. And what all searches of the checker share.
 pub mod bits;
-pub mod eights;
-pub mod hangs;
 pub mod overlaps;

@@ -1,58 +1,85 @@
-use native.Mathlib.Omega.{arith}
-use borrow.Author.Needs.{needs}
-use Rattle.judge.specs.Verdicts.{pixels-most, plane-sized, ring-count, rings-is, stack-length, told-10, told-11, told-9, told-accepted}
+use Rattle.judge.specs.Verdicts.{first-bad, first-unheld, pixels-most, plane-sized, rings-is, stack-length, told-10, told-11, told-9, told-accepted, told-sure, whole-of}
 use Rattle.laws.specs.Limits.{area-most, rings-most}
 use Rattle.rules.specs.Reach.{boundOf}
+use native.Mathlib.Omega.{arith}
+use borrow.Author.Needs.{needs}
 use Rattle.judge.proofs.verdict.Statement.{statement}
 use Rattle.judge.proofs.verdict.Tie as tie
 use Rattle.judge.proofs.verdict.Reads as reads
 use Rattle.judge.proofs.verdict.Lts as lts
-use Rattle.judge.proofs.bad_ring.Reads as bad-ring-reads
-use Rattle.places.proofs.overlaps.overlap_at.Reads as overlap-at-reads
+use Rattle.chains.proofs.search.first.Reads as first-reads
+use Rattle.judge.proofs.bound.Reads as bound-reads
 use Rattle.judge.proofs.place_of.Reads as place-of-reads
-use Rattle.places.proofs.hangs.unheld_at.Reads as unheld-at-reads
+use Rattle.places.proofs.overlaps.overlap_at.Reads as overlap-at-reads
+use Rattle.quick.proofs.stack.sure.Reads as sure-reads
 
+-- src/lib.rt:50:16
 mul-area : tie.Need-mul-area
 mul-area c = omega (arith, area-most (c .before .before .before .args .s .w) (c .before .before .before .args .s .h) (c .before .before .before .pre .0 .w-high) (c .before .before .before .pre .0 .h-high))
 
+-- src/lib.rt:51:18
 mul-pixels : tie.Need-mul-pixels
 mul-pixels c = omega (arith, pixels-most (c .before .before .before .args .s) (c .before .before .before .pre .0))
 
+-- src/lib.rt:52:18
 sub-pairs : tie.Need-sub-pairs
 sub-pairs c = search needs
 
+-- src/lib.rt:52:17
 mul-pairs : tie.Need-mul-pairs
 mul-pairs c = omega (arith, rings-most (c .before .before .before .args .s) (c .before .before .before .pre .0), rings-is (c .before .before .before .args .s))
 
+-- src/lib.rt:53:9
 overlap-at-requires : tie.Need-overlap-at-requires
 overlap-at-requires c κs = ((plane-sized (c .before .before .before .args .s) (c .before .before .before .pre .0), c .before .before .before .pre .0 .n-high), (stack-length (c .before .before .before .args .s) _ (c .before .before .before .pre .1 .0), stack-length (c .before .before .before .args .s) _ (c .before .before .before .pre .1 .1 .0)))
 
+-- src/lib.rt:55:37
 place-of-requires : tie.Need-place-of-requires
 place-of-requires c κs = (plane-sized (c .before .before .before .before .before .args .s) (c .before .before .before .before .before .pre .0), (omega (arith, pixels-most (c .before .before .before .before .before .args .s) (c .before .before .before .before .before .pre .0), c .if1 .taken), omega arith))
 
+-- src/lib.rt:55:9
 returns : tie.Need-returns
-returns c = told-9 (c .before .before .before .before .before .before .args .s .w) (c .before .before .before .before .before .before .args .s .h) (c .before .before .before .before .before .before .args .s .n) (boundOf (c .before .before .before .before .before .before .args .s)) (c .before .before .before .before .before .before .args .part .now) (c .before .before .before .before .before .before .args .support .now) (c .before .before .before .before .before .before .args .rings .now) _ (c .before .before .overlap-at .ensures) (c .before .if1 .taken) _ (c .place-of .ensures)
+returns c = told-9 (c .before .before .before .before .before .before .args .s .w) (c .before .before .before .before .before .before .args .s .h) (c .before .before .before .before .before .before .args .s .n) (boundOf (c .before .before .before .before .before .before .args .s)) (c .before .before .before .before .before .before .args .part .now) (c .before .before .before .before .before .before .args .support .now) (c .before .before .before .before .before .before .args .rings .now) (c .before .before .overlap-at .result) (c .before .before .overlap-at .ensures) (c .before .if1 .taken) (c .place-of .result) (c .place-of .ensures)
 
-bad-ring-requires : tie.Need-bad-ring-requires
-bad-ring-requires c κs = search needs
+-- src/lib.rt:57:9
+bound-requires : tie.Need-bound-requires
+bound-requires c κs = c .before .before .before .before .before .pre .0
 
-place-of-requires-2 : tie.Need-place-of-requires-2
-place-of-requires-2 c κs = (plane-sized (c .before .before .before .before .before .before .before .args .s) (c .before .before .before .before .before .before .before .pre .0), (omega (arith, rings-most (c .before .before .before .before .before .before .before .args .s) (c .before .before .before .before .before .before .before .pre .0), rings-is (c .before .before .before .before .before .before .before .args .s), c .if2 .taken), omega arith))
+-- src/lib.rt:58:8
+sure-requires : tie.Need-sure-requires
+sure-requires c κs = (whole-of (c .before .before .before .before .before .before .args .s) (c .before .before .before .before .before .before .args .part .now) (c .before .before .before .before .before .before .args .support .now) (c .before .before .before .before .before .before .args .rings .now) (c .before .before .before .before .before .before .pre), c .bound .ensures .1)
 
+-- src/lib.rt:59:9
 returns-2 : tie.Need-returns-2
-returns-2 c = told-10 (c .before .before .before .before .before .before .before .before .args .s .w) (c .before .before .before .before .before .before .before .before .args .s .h) (c .before .before .before .before .before .before .before .before .args .s .n) (boundOf (c .before .before .before .before .before .before .before .before .args .s)) (c .before .before .before .before .before .before .before .before .args .part .now) (c .before .before .before .before .before .before .before .before .args .support .now) (c .before .before .before .before .before .before .before .before .args .rings .now) _ (c .before .before .before .before .overlap-at .ensures) (c .before .before .before .if1 .left) _ (c .before .before .bad-ring .ensures) (c .before .if2 .taken) _ (c .place-of2 .ensures)
+returns-2 c = told-sure (c .before .before .before .before .before .before .before .before .args .s) (c .before .before .bound .result .0) (c .before .before .before .before .before .before .before .before .args .part .now) (c .before .before .before .before .before .before .before .before .args .support .now) (c .before .before .before .before .before .before .before .before .args .rings .now) (c .before .before .before .before .overlap-at .result) (c .before .before .bound .ensures .0) (c .before .before .before .before .overlap-at .ensures) (c .before .before .before .if1 .left) (c .before .sure .ensures (c .if2 .taken))
 
-unheld-at-requires : tie.Need-unheld-at-requires
-unheld-at-requires c κs = ((plane-sized (c .before .before .before .before .before .before .before .args .s) (c .before .before .before .before .before .before .before .pre .0), (c .before .before .before .before .before .before .before .pre .0 .n-low, c .before .before .before .before .before .before .before .pre .0 .n-high)), (stack-length (c .before .before .before .before .before .before .before .args .s) _ (c .before .before .before .before .before .before .before .pre .1 .0), (stack-length (c .before .before .before .before .before .before .before .args .s) _ (c .before .before .before .before .before .before .before .pre .1 .1 .0), ring-count (c .before .before .before .before .before .before .before .args .s) _ (c .before .before .before .before .before .before .before .pre .1 .1 .1 .1))))
+-- src/lib.rt:61:9
+first-requires : tie.Need-first-requires
+first-requires c κs = (whole-of (c .before .before .before .before .before .before .before .before .args .s) (c .before .before .before .before .before .before .before .before .args .part .now) (c .before .before .before .before .before .before .before .before .args .support .now) (c .before .before .before .before .before .before .before .before .args .rings .now) (c .before .before .before .before .before .before .before .before .pre), c .before .before .bound .ensures .1)
 
-place-of-requires-3 : tie.Need-place-of-requires-3
-place-of-requires-3 c κs = (plane-sized (c .before .before .before .before .before .before .before .before .before .args .s) (c .before .before .before .before .before .before .before .before .before .pre .0), (omega (arith, rings-most (c .before .before .before .before .before .before .before .before .before .args .s) (c .before .before .before .before .before .before .before .before .before .pre .0), rings-is (c .before .before .before .before .before .before .before .before .before .args .s), c .if3 .taken), omega arith))
+-- src/lib.rt:63:38
+place-of-requires-2 : tie.Need-place-of-requires-2
+place-of-requires-2 c κs = (plane-sized (c .before .before .before .before .before .before .before .before .before .before .args .s) (c .before .before .before .before .before .before .before .before .before .before .pre .0), (omega (arith, rings-most (c .before .before .before .before .before .before .before .before .before .before .args .s) (c .before .before .before .before .before .before .before .before .before .before .pre .0), rings-is (c .before .before .before .before .before .before .before .before .before .before .args .s), c .if3 .taken), omega arith))
 
+-- src/lib.rt:63:9
 returns-3 : tie.Need-returns-3
-returns-3 c = told-11 (c .before .before .before .before .before .before .before .before .before .before .args .s .w) (c .before .before .before .before .before .before .before .before .before .before .args .s .h) (c .before .before .before .before .before .before .before .before .before .before .args .s .n) (boundOf (c .before .before .before .before .before .before .before .before .before .before .args .s)) (c .before .before .before .before .before .before .before .before .before .before .args .part .now) (c .before .before .before .before .before .before .before .before .before .before .args .support .now) (c .before .before .before .before .before .before .before .before .before .before .args .rings .now) _ (c .before .before .before .before .before .before .overlap-at .ensures) (c .before .before .before .before .before .if1 .left) _ (c .before .before .before .before .bad-ring .ensures) (c .before .before .before .if2 .left) _ (c .before .before .unheld-at .ensures) (c .before .if3 .taken) _ (c .place-of3 .ensures)
+returns-3 c = told-10 (c .before .before .before .before .before .before .before .before .before .before .before .args .s .w) (c .before .before .before .before .before .before .before .before .before .before .before .args .s .h) (c .before .before .before .before .before .before .before .before .before .before .before .args .s .n) (boundOf (c .before .before .before .before .before .before .before .before .before .before .before .args .s)) (c .before .before .before .before .before .before .before .before .before .before .before .args .part .now) (c .before .before .before .before .before .before .before .before .before .before .before .args .support .now) (c .before .before .before .before .before .before .before .before .before .before .before .args .rings .now) (c .before .before .before .before .before .before .before .overlap-at .result) (c .before .before .before .before .before .before .before .overlap-at .ensures) (c .before .before .before .before .before .before .if1 .left) (c .before .before .first .result) (first-bad (c .before .before .before .before .before .before .before .before .before .before .before .args .s) (c .before .before .before .before .before .bound .result .0) (c .before .before .before .before .before .before .before .before .before .before .before .args .part .now) (c .before .before .before .before .before .before .before .before .before .before .before .args .support .now) (c .before .before .before .before .before .before .before .before .before .before .before .args .rings .now) (c .before .before .before .before .before .bound .ensures .0) (c .before .before .first .result) (c .before .before .first .ensures)) (c .before .if3 .taken) (c .place-of2 .result) (c .place-of2 .ensures)
 
+-- src/lib.rt:65:9
+first-requires-2 : tie.Need-first-requires-2
+first-requires-2 c κs = (whole-of (c .before .before .before .before .before .before .before .before .before .before .args .s) (c .before .before .before .before .before .before .before .before .before .before .args .part .now) (c .before .before .before .before .before .before .before .before .before .before .args .support .now) (c .before .before .before .before .before .before .before .before .before .before .args .rings .now) (c .before .before .before .before .before .before .before .before .before .before .pre), c .before .before .before .before .bound .ensures .1)
+
+-- src/lib.rt:67:38
+place-of-requires-3 : tie.Need-place-of-requires-3
+place-of-requires-3 c κs = (plane-sized (c .before .before .before .before .before .before .before .before .before .before .before .before .args .s) (c .before .before .before .before .before .before .before .before .before .before .before .before .pre .0), (omega (arith, rings-most (c .before .before .before .before .before .before .before .before .before .before .before .before .args .s) (c .before .before .before .before .before .before .before .before .before .before .before .before .pre .0), rings-is (c .before .before .before .before .before .before .before .before .before .before .before .before .args .s), c .if4 .taken), omega arith))
+
+-- src/lib.rt:67:9
 returns-4 : tie.Need-returns-4
-returns-4 c = told-accepted (c .before .before .before .before .before .before .before .before .before .args .s .w) (c .before .before .before .before .before .before .before .before .before .args .s .h) (c .before .before .before .before .before .before .before .before .before .args .s .n) (boundOf (c .before .before .before .before .before .before .before .before .before .args .s)) (c .before .before .before .before .before .before .before .before .before .args .part .now) (c .before .before .before .before .before .before .before .before .before .args .support .now) (c .before .before .before .before .before .before .before .before .before .args .rings .now) _ (c .before .before .before .before .before .overlap-at .ensures) (c .before .before .before .before .if1 .left) _ (c .before .before .before .bad-ring .ensures) (c .before .before .if2 .left) _ (c .before .unheld-at .ensures) (c .if3 .left)
+returns-4 c = told-11 (c .before .before .before .before .before .before .before .before .before .before .before .before .before .args .s .w) (c .before .before .before .before .before .before .before .before .before .before .before .before .before .args .s .h) (c .before .before .before .before .before .before .before .before .before .before .before .before .before .args .s .n) (boundOf (c .before .before .before .before .before .before .before .before .before .before .before .before .before .args .s)) (c .before .before .before .before .before .before .before .before .before .before .before .before .before .args .part .now) (c .before .before .before .before .before .before .before .before .before .before .before .before .before .args .support .now) (c .before .before .before .before .before .before .before .before .before .before .before .before .before .args .rings .now) (c .before .before .before .before .before .before .before .before .before .overlap-at .result) (c .before .before .before .before .before .before .before .before .before .overlap-at .ensures) (c .before .before .before .before .before .before .before .before .if1 .left) (c .before .before .before .before .first .result) (first-bad (c .before .before .before .before .before .before .before .before .before .before .before .before .before .args .s) (c .before .before .before .before .before .before .before .bound .result .0) (c .before .before .before .before .before .before .before .before .before .before .before .before .before .args .part .now) (c .before .before .before .before .before .before .before .before .before .before .before .before .before .args .support .now) (c .before .before .before .before .before .before .before .before .before .before .before .before .before .args .rings .now) (c .before .before .before .before .before .before .before .bound .ensures .0) (c .before .before .before .before .first .result) (c .before .before .before .before .first .ensures)) (c .before .before .before .if3 .left) (c .before .before .first2 .result) (first-unheld (c .before .before .before .before .before .before .before .before .before .before .before .before .before .args .s) (c .before .before .before .before .before .before .before .bound .result .0) (c .before .before .before .before .before .before .before .before .before .before .before .before .before .args .part .now) (c .before .before .before .before .before .before .before .before .before .before .before .before .before .args .support .now) (c .before .before .before .before .before .before .before .before .before .before .before .before .before .args .rings .now) (c .before .before .before .before .before .before .before .bound .ensures .0) (c .before .before .first2 .result) (c .before .before .first2 .ensures)) (c .before .if4 .taken) (c .place-of3 .result) (c .place-of3 .ensures)
+
+-- src/lib.rt:43:1
+returns-5 : tie.Need-returns-5
+returns-5 c = told-accepted (c .before .before .before .before .before .before .before .before .before .before .before .before .args .s .w) (c .before .before .before .before .before .before .before .before .before .before .before .before .args .s .h) (c .before .before .before .before .before .before .before .before .before .before .before .before .args .s .n) (boundOf (c .before .before .before .before .before .before .before .before .before .before .before .before .args .s)) (c .before .before .before .before .before .before .before .before .before .before .before .before .args .part .now) (c .before .before .before .before .before .before .before .before .before .before .before .before .args .support .now) (c .before .before .before .before .before .before .before .before .before .before .before .before .args .rings .now) (c .before .before .before .before .before .before .before .before .overlap-at .result) (c .before .before .before .before .before .before .before .before .overlap-at .ensures) (c .before .before .before .before .before .before .before .if1 .left) (c .before .before .before .first .result) (first-bad (c .before .before .before .before .before .before .before .before .before .before .before .before .args .s) (c .before .before .before .before .before .before .bound .result .0) (c .before .before .before .before .before .before .before .before .before .before .before .before .args .part .now) (c .before .before .before .before .before .before .before .before .before .before .before .before .args .support .now) (c .before .before .before .before .before .before .before .before .before .before .before .before .args .rings .now) (c .before .before .before .before .before .before .bound .ensures .0) (c .before .before .before .first .result) (c .before .before .before .first .ensures)) (c .before .before .if3 .left) (c .before .first2 .result) (first-unheld (c .before .before .before .before .before .before .before .before .before .before .before .before .args .s) (c .before .before .before .before .before .before .bound .result .0) (c .before .before .before .before .before .before .before .before .before .before .before .before .args .part .now) (c .before .before .before .before .before .before .before .before .before .before .before .before .args .support .now) (c .before .before .before .before .before .before .before .before .before .before .before .before .args .rings .now) (c .before .before .before .before .before .before .bound .ensures .0) (c .before .first2 .result) (c .before .first2 .ensures)) (c .if4 .left)
 
 pub verdict-spec : {M : Type 1} → statement M
 verdict-spec =
@@ -65,10 +92,13 @@ verdict-spec =
     overlap-at-requires
     place-of-requires
     returns
-    bad-ring-requires
-    place-of-requires-2
+    bound-requires
+    sure-requires
     returns-2
-    unheld-at-requires
-    place-of-requires-3
+    first-requires
+    place-of-requires-2
     returns-3
-    returns-4)
+    first-requires-2
+    place-of-requires-3
+    returns-4
+    returns-5)

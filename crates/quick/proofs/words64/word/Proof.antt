@@ -1,0 +1,75 @@
+use Rattle.quick.specs.Joined.{step-fits, good-none, quiet-at}
+use Rattle.quick.specs.BitLaws.{bit-zero}
+use Rattle.places.specs.Planes.{in-plane}
+use Rattle.laws.specs.Tests.{clash}
+use borrow.Author.Tests.{eqb-true}
+use Prim.Native.Nat.{_+_, _*_}
+use native.Mathlib.Omega.{arith}
+use borrow.Author.Needs.{needs}
+use Rattle.quick.proofs.words64.word.Statement.{statement}
+use Rattle.quick.proofs.words64.word.Tie as tie
+use Rattle.quick.proofs.words64.word.Reads as reads
+use Rattle.quick.proofs.words64.word.Lts as lts
+use Rattle.quick.proofs.marks.gather.Reads as gather-reads
+use Rattle.quick.proofs.steps.pixels.Reads as pixels-reads
+use Rattle.quick.proofs.words64.eights.Reads as eights-reads
+
+-- src/words64.rt:60:9
+returns : tie.Need-returns
+returns c = record { fine = λ e k a b l. absurd (omega arith); has = λ k l e. clash e (bit-zero k) }
+
+-- src/words64.rt:62:12
+add-if2 : tie.Need-add-if2
+add-if2 c = search needs
+
+-- src/words64.rt:63:59
+sub-pixels : tie.Need-sub-pixels
+sub-pixels c = search needs
+
+-- src/words64.rt:63:9
+pixels-requires : tie.Need-pixels-requires
+pixels-requires c κs = (c .before .before .before .before .pre .0, (c .before .before .before .before .pre .1 .0, (omega arith, (omega arith, omega arith))))
+
+-- src/words64.rt:63:9
+returns-2 : tie.Need-returns-2
+returns-2 c = record { fine = λ e k a b l. c .pixels .ensures .fine e k a (omega arith) l; has = c .pixels .ensures .has }
+
+-- src/words64.rt:67:47
+mul-gather : tie.Need-mul-gather
+mul-gather c = omega (arith, step-fits (c .before .before .before .before .before .args .w) (c .before .before .before .before .before .args .h) (c .before .before .before .before .before .args .r) 0 (c .before .before .before .before .before .pre .0 .0) (c .before .before .before .before .before .pre .1 .0) (c .before .before .before .before .before .pre .0 .0 .w-low), c .before .before .before .before .before .pre .0 .0 .w-high)
+
+-- src/words64.rt:67:47
+add-gather : tie.Need-add-gather
+add-gather c = omega (arith, step-fits (c .before .before .before .before .before .args .w) (c .before .before .before .before .before .args .h) (c .before .before .before .before .before .args .r) 0 (c .before .before .before .before .before .pre .0 .0) (c .before .before .before .before .before .pre .1 .0) (c .before .before .before .before .before .pre .0 .0 .w-low), c .before .before .before .before .before .pre .0 .0 .w-high)
+
+-- src/words64.rt:67:19
+gather-requires : tie.Need-gather-requires
+gather-requires c κs = omega (arith, in-plane (c .before .before .before .before .before .args .w) (c .before .before .before .before .before .args .h) (c .before .before .before .before .before .args .r) (c .before .before .before .before .before .args .x + 63) (c .before .before .before .before .before .pre .1 .0) (omega arith))
+
+-- src/words64.rt:66:9
+returns-3 : tie.Need-returns-3
+returns-3 c = record { fine = λ e k a b l. good-none (c .before .before .before .before .before .before .args .w) (c .before .before .before .before .before .before .args .h) _ _ (c .before .before .before .before .before .before .args .rings .now) (c .before .before .before .before .before .before .args .r) (c .before .before .before .before .before .before .args .x + k) (quiet-at (c .before .before .before .before .before .before .args .rings .now) (c .before .before .before .before .before .before .args .r * c .before .before .before .before .before .before .args .w) (c .before .before .before .before .before .before .args .x) 64 (c .gather .result) k (eqb-true _ 0 e) (c .gather .ensures) b); has = λ k l e. clash e (bit-zero k) }
+
+-- src/words64.rt:71:5
+eights-requires : tie.Need-eights-requires
+eights-requires c κs = (c .before .before .before .before .before .pre .0, (c .before .before .before .before .before .pre .1 .0, (omega arith, c .before .before .before .before .before .pre .1 .1 .1)))
+
+-- src/words64.rt:46:1
+returns-4 : tie.Need-returns-4
+returns-4 c = c .eights .ensures
+
+pub word-spec : {M : Type 1} → statement M
+word-spec =
+    tie.close
+    (tie.spec
+    returns
+    add-if2
+    sub-pixels
+    pixels-requires
+    returns-2
+    mul-gather
+    add-gather
+    gather-requires
+    returns-3
+    eights-requires
+    returns-4)

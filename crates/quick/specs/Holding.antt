@@ -1,0 +1,159 @@
+-- From good rows to a pair without a bad ring and without an unheld pixel.
+use mathlib.Core.Path.{_≡_, refl, sym, ap, ap₂, subst, _∙_}
+use mathlib.Core.Bool.{Bool, true, false, not, _&&_, _||_}
+use mathlib.Core.List.{List}
+use Prim.Native.Nat.{ℕ, suc, _+_, _-_, _*_, _/_, _%_, _<_, _≤_, min}
+use native.Mathlib.Nat.{div-add-mod'}
+use native.Mathlib.Omega.{arith}
+use borrow.Author.Tests.{ltb-true, ltb-false, lt-ltb, eqb-true, eqb-false, ne-eqb, leb-true}
+use lib.Arith.{digits-div, digits-mod}
+use lib.Dec.{ltb, eqb, leb}
+use lib.ListN.{getD, length}
+use Rattle.rules.specs.Images.{Plane, rowBytes, bitAt}
+use Rattle.rules.specs.Planning.{shadow, seeds, near}
+use Rattle.laws.specs.Tests.{split, clash, and-l, and-r, and-in, not-out, or-cases}
+use Rattle.laws.specs.Places.{digits-in}
+use Rattle.laws.specs.Neighbours.{touch-in}
+use Rattle.image.specs.Packed.{row-bit}
+use Rattle.image.specs.Rows.{packed, Clean}
+use Rattle.image.specs.Scratch.{bitOf}
+use Rattle.words.specs.Words.{rowPart, beside, Within}
+use Rattle.places.specs.Search.{unheldHere}
+use Rattle.places.specs.Planes.{in-plane}
+use Rattle.places.specs.Rows.{bytes-in, byte-of}
+use Rattle.quick.specs.Sound.{Good, Beside, Sound, seedPart, hangPart, NoneHangs}
+
+-- a row's bytes lie in its plane
+pub row-room : (w h y rb len : ℕ) → y < h → rb ≡ rowBytes w → h * rowBytes w ≤ len → y * rb + rb ≤ len
+row-room w h y rb len ly er el = omega (arith, bytes-in w h y (y * rb) rb (h * rowBytes w) refl er ly refl)
+
+-- the shadow pixels of a row, from the two rows read
+pub shadow-part : (s u l u′ l′ : ℕ → Bool) → ((c : ℕ) → u c ≡ u′ c) → ((c : ℕ) → l c ≡ l′ c) → ((c : ℕ) → s c ≡ (u c && not (l c))) → (c : ℕ) → s c ≡ true → (u′ c && not (l′ c)) ≡ true
+shadow-part s u l u′ l′ eu el es c e = sym (ap₂ (λ (a b : Bool). a && not b) (eu c) (el c)) ∙ sym (es c) ∙ e
+
+part-out : (s : List ℕ) (at n c : ℕ) → rowPart s at n c ≡ true → (c < n * 8) × (bitOf s (at * 8 + c) ≡ true)
+unfolding rowPart
+part-out s at n c e = (ltb-true c (n * 8) (and-l (ltb c (n * 8)) _ e), and-r (ltb c (n * 8)) _ e)
+
+seed-not-shadow : (low up : Plane) (p : ℕ) → seeds low up p ≡ true → shadow low up p ≡ true → ⊥
+unfolding seeds shadow
+seed-not-shadow low up p s sh = clash (and-l (low p) (up p) s) (not-out (low p) (and-r (up p) _ sh))
+
+-- a layer has no pixel behind its columns
+pub part-in : (w h rb : ℕ) → rb ≡ rowBytes w → (s : List ℕ) → Clean w h s → (y c : ℕ) → y < h → rowPart s (y * rb) rb c ≡ true → c < w
+part-in w h rb er s cl y c ly e =
+    let (l, b) = part-out s (y * rb) rb c e in
+    split (ltb c w) (ltb-true c w) (λ t. clash b (rw er (cl .clear y c ly (ltb-false c w t) (omega (arith, er)))))
+
+-- Row r of a pair: the rows about it have their bytes at above * rb and below * rb
+module _ (w h rb r : ℕ) (er : rb ≡ rowBytes w) where
+  row-wide : w ≤ rb * 8
+  unfolding rowBytes
+  row-wide = omega (arith, er)
+
+  pub packed-part : (s : List ℕ) (y c : ℕ) → c < w → packed w s (y * w + c) ≡ rowPart s (y * rb) rb c
+  unfolding packed rowPart
+  packed-part s y c l = rw (digits-div y l, digits-mod y l, ← er, lt-ltb c (rb * 8) (omega (arith, row-wide)))
+
+  -- a pixel that hangs, and has a ring, is not unheld
+  pub held-pixel : (low up below above rings : List ℕ) (c : ℕ) → c < w → (hangPart low up below above (r * rb) rb c ≡ true → 0 < getD rings (r * w + c) 0)
+      → unheldHere (packed w low) (packed w up) (packed w below) (packed w above) (λ o. getD rings o 0) (r * w + c) ≡ false
+  unfolding unheldHere hangPart
+  held-pixel low up below above rings c l held =
+      rw (packed-part low r c l, packed-part up r c l, packed-part below r c l, packed-part above r c l)
+      (split ((rowPart up (r * rb) rb c || rowPart above (r * rb) rb c) && not (rowPart low (r * rb) rb c || rowPart below (r * rb) rb c))
+      (λ t. rw (t, ne-eqb (getD rings (r * w + c) 0) 0 (λ z. omega (arith, held t)))) (λ t. rw t))
+
+  module _ (low up : List ℕ) (cl : Clean w h low) where
+    seed-in-row : (y c : ℕ) → y < h → seedPart low up (y * rb) rb c ≡ true → (c < w) × (seeds (packed w low) (packed w up) (y * w + c) ≡ true)
+    unfolding seedPart seeds
+    seed-in-row y c ly e =
+        let d : c < w = part-in w h rb er low cl y c ly (and-l (rowPart low (y * rb) rb c) _ e) in
+        (d, rw (packed-part low y c d, packed-part up y c d) e)
+
+    module _ (above below : ℕ) (lr : r < h) (ea : above ≡ r - 1) (eb : below ≡ min (r + 1) (h - 1)) (se fr fi : ℕ → Bool)
+        (Se : (c : ℕ) → se c ≡ ((seedPart low up (above * rb) rb c || seedPart low up (r * rb) rb c) || seedPart low up (below * rb) rb c))
+        (Fr : (c : ℕ) → fr c ≡ true → (rowPart up (r * rb) rb c && not (rowPart low (r * rb) rb c)) ≡ true)
+        (Fi : (c : ℕ) → fi c ≡ true → (fr c ≡ true) × (beside 1 se c ≡ true)) where
+      free-pixel : (c : ℕ) → c < w → fr c ≡ true → shadow (packed w low) (packed w up) (r * w + c) ≡ true
+      unfolding shadow
+      free-pixel c l e = rw (packed-part up r c l, packed-part low r c l) (Fr c e)
+
+      -- a shadow pixel beside a seed
+      seed-beside : (c d : ℕ) → c < w → d ≤ c + 1 → c ≤ d + 1 → shadow (packed w low) (packed w up) (r * w + c) ≡ true → se d ≡ true → Beside w h (seeds (packed w low) (packed w up)) (r * w + c)
+      seed-beside c d lc hi lo sh e =
+          or-cases (seedPart low up (above * rb) rb d) (seedPart low up (r * rb) rb d) (seedPart low up (below * rb) rb d) (sym (Se d) ∙ e)
+          (there above (omega arith) (omega arith) (omega arith)) (there r lr (omega arith) (omega arith)) (there below (omega arith) (omega arith) (omega arith))
+        where
+          other : (y : ℕ) → seeds (packed w low) (packed w up) (y * w + d) ≡ true → r ≡ y → c ≡ d → ⊥
+          other y s q z = seed-not-shadow (packed w low) (packed w up) (y * w + d) s (rw (q, z) at sh)
+
+          there : (y : ℕ) → y < h → r ≤ y + 1 → y ≤ r + 1 → seedPart low up (y * rb) rb d ≡ true → Beside w h (seeds (packed w low) (packed w up)) (r * w + c)
+          there y ly a b s =
+              let (ld, is) = seed-in-row y d ly s in
+              record {
+                other = y * w + d;
+                inside = in-plane w h y d ly ld;
+                touches = touch-in w r c y d lc ld (record { up = a; down = b; left = lo; right = hi; other = other y is });
+                is = is;
+              }
+
+      first-pixel : (c : ℕ) → c < w → fi c ≡ true → Beside w h (seeds (packed w low) (packed w up)) (r * w + c)
+      unfolding beside
+      first-pixel c lc e =
+          let (f, b) = Fi c e in
+          let sh : shadow (packed w low) (packed w up) (r * w + c) ≡ true = free-pixel c lc f in
+          or-cases (se c) (se (c + 1)) (leb 1 c && se (c - 1)) b
+          (seed-beside c c lc (omega arith) (omega arith) sh)
+          (seed-beside c (c + 1) lc (omega arith) (omega arith) sh)
+          (λ u. let p : 1 ≤ c = leb-true 1 c (and-l (leb 1 c) _ u) in seed-beside c (c - 1) lc (omega arith) (omega arith) sh (and-r (leb 1 c) _ u))
+
+      -- a good ring is sound
+      pub good-sound : (q t m : ℕ) (disc : Plane) (rings : List ℕ) → ((c : ℕ) → c < w → t < m → fr c ≡ true → near w h q disc (r * w + c) ≡ true) →
+          (c : ℕ) → c < w → getD rings (r * w + c) 0 ≤ m → Good w h (fr c) (fi c) rings r c → Sound w h q t disc (packed w low) (packed w up) (λ o. getD rings o 0) (r * w + c)
+      good-sound q t m disc rings Fn c lc lm g = record {
+        free = λ l. free-pixel c lc (is-free l);
+        close = λ l. Fn c lc (omega arith) (is-free (omega arith));
+        first = λ e. first-pixel c lc (g .first-in e);
+        leans = λ l.
+            let s = g .leans l in (
+              s .row * w + s .column,
+              in-plane w h (s .row) (s .column) (s .row-in) (s .column-in),
+              touch-in w r c (s .row) (s .column) lc (s .column-in) (record {
+                up = s .up;
+                down = s .down;
+                left = s .left;
+                right = s .right;
+                other = λ q z. same-ring (r * w + c) (s .row * w + s .column) l (s .is) (ap (λ (x : ℕ). x * w + c) q ∙ ap (λ (x : ℕ). s .row * w + x) z);
+              }),
+              omega (arith, s .is),
+            );
+      }
+        where
+          is-free : 0 < getD rings (r * w + c) 0 → fr c ≡ true
+          is-free l = split (eqb (getD rings (r * w + c) 0) 1)
+              (λ t. Fi c (g .first-in (eqb-true (getD rings (r * w + c) 0) 1 t)) .0) (λ t. g .free-in (omega (arith, eqb-false (getD rings (r * w + c) 0) 1 t)))
+
+          same-ring : (p o : ℕ) → 1 < getD rings p 0 → getD rings o 0 ≡ getD rings p 0 - 1 → p ≡ o → ⊥
+          same-ring p o l e q = omega (arith, ap (λ (x : ℕ). getD rings x 0) q)
+
+-- a row that was put into four words
+pub put-four : (g was out : ℕ → Bool) → Within (0 * 64) ((0 + 4) * 64) (λ j. g (j - 0 * 64)) was out → (c : ℕ) → c < 256 → out c ≡ g c
+put-four g was out W c l = W .inner c (omega arith) (omega arith) ∙ ap g (omega arith)
+
+pub good-same : (w h : ℕ) (a b a′ b′ : Bool) (rings : List ℕ) (r c : ℕ) → a ≡ a′ → b ≡ b′ → Good w h a b rings r c → Good w h a′ b′ rings r c
+good-same w h a b a′ b′ rings r c e f g = rw (← e, ← f) g
+
+-- A row without rings, and all rows ------------------------------------------------------------------------------------------
+
+pub sound-none : (w h q t : ℕ) (disc low up : Plane) (ring : ℕ → ℕ) (p : ℕ) → ring p ≤ 0 → Sound w h q t disc low up ring p
+sound-none w h q t disc low up ring p e =
+    record { free = λ l. absurd (omega arith); close = λ l. absurd (omega arith); first = λ o. absurd (omega arith); leans = λ l. absurd (omega arith) }
+
+-- all pixels of all rows
+pub all-rows : (w h : ℕ) (P : ℕ → Type 0) → ((y : ℕ) → y < h → (c : ℕ) → c < w → P (y * w + c)) → (p : ℕ) → p < h * w → P p
+all-rows w h P all p l = let (lr, lc) = digits-in p h w l in subst P (div-add-mod' p w) (all (p / w) lr (p % w) lc)
+
+-- what is held, where anything hangs and where nothing does
+pub held-some : (some : Bool) (P : Type 0) → (some ≡ false → P) → (some ≡ true → P) → P
+held-some some P none any = split some any none

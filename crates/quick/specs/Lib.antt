@@ -1,0 +1,11 @@
+-- What the contracts cite.
+pub mod Sound
+-- Laws about it.
+pub mod BitLaws
+pub mod Joined
+pub mod Holding
+pub mod Trust
+pub mod Hanging
+pub mod Layers
+pub mod Stacks
+pub mod Nearby

@@ -1,0 +1,48 @@
+// Eight rings at once, held against the bits of a byte.
+ghost use mathlib.Core.Path.{_≡_};
+ghost use mathlib.Core.Bool.{true};
+ghost use Prim.Native.Nat.{ℕ, _+_, _<_, _≤_};
+ghost use lib.ListN.{length, getD};
+ghost use Rattle.rules.specs.Tools.{bit};
+ghost use Rattle.rules.specs.Images.{bitAt};
+ghost use Rattle.quick.specs.Sound.{Ones};
+
+fn digit(m: u8, k: usize) -> u16
+    requires { ⌜ k < 8 ⌝ }
+    ensures { λ r. ⌜ r ≡ bit (bitAt m k) ⌝ }
+{
+    if places::bits::bit(m, k) { 1 } else { 0 }
+}
+
+// The bits of every byte, each as a number.
+pub fn fill_ones(ones: &mut [u16])
+    requires { ⌜ length (now ones) ≡ 2048 ⌝ }
+    ensures { λ _. ⌜ Ones (now (ones .exit)) ⌝ }
+{
+    let mut i = 0;
+    while i < 2048 {
+        ones[i] = digit((i / 8) as u8, i % 8);
+        i += 1;
+    }
+}
+
+fn wide(m: u8) -> usize
+    ensures { λ r. ⌜ (r ≡ m) × (r < 256) ⌝ }
+{
+    m as usize
+}
+
+// Whether the eight pixels from x on have ring 1 where m has a bit, and else none.
+pub fn alike(rings: &[u16], ones: &[u16], x: usize, m: u8) -> bool
+    requires { ⌜ (x + 8 ≤ length (now rings)) × Ones (now ones) ⌝ }
+    ensures { λ b. ⌜ (b ≡ true → (k : ℕ) → k < 8 → getD (now (rings .entry)) (x + k) 0 ≡ bit (bitAt m k)) ⌝ }
+{
+    let at = wide(m) * 8;
+    let mut all: u16 = 0;
+    let mut k = 0;
+    while k < 8 {
+        all = all | (rings[x + k] ^ ones[at + k]);
+        k += 1;
+    }
+    all == 0
+}

@@ -1,0 +1,101 @@
+// Rings that are good, by words: 64 columns without a free pixel are passed over at once, and so are eight whose rings are 1 at the first
+// pixels and else 0.
+use crate::Sure;
+use crate::Told;
+ghost use mathlib.Core.Path.{_≡_};
+ghost use mathlib.Core.Bool.{true};
+ghost use Prim.Native.Nat.{ℕ, _+_, _*_, _<_, _≤_};
+ghost use lib.ListN.{length, getD};
+ghost use Rattle.words.specs.Words.{wordBit};
+ghost use Rattle.places.specs.Search.{Sized};
+ghost use Rattle.quick.specs.Sound.{Ones, Good, Tells};
+
+// The word at column x, byte by byte.
+fn eights(
+    rings: &[u16],
+    ones: &[u16],
+    w: usize,
+    h: usize,
+    r: usize,
+    x: usize,
+    free: u64,
+    first: u64,
+) -> Told
+    requires { ⌜ (Sized w h × (length (now rings) ≡ h * w)) × ((r < h) × ((x + 64 ≤ w) × Ones (now ones))) ⌝ }
+    ensures { λ t. ⌜ Tells w h (now (rings .entry)) r x 0 64 free first t ⌝ }
+{
+    let at = r * w + x;
+    let mut got = first;
+    let mut b = 0;
+    while b < 8 {
+        if crate::eights::alike(rings, ones, at + 8 * b, crate::bits::byte(first, b)) {
+            b += 1;
+        } else {
+            let t = crate::steps::pixels(rings, w, h, r, x, 8 * b, 8 * b + 8, free, first);
+            if !t.good {
+                return Told { good: false, got: 0 };
+            }
+            got = crate::bits::patched(got, t.got, b);
+            b += 1;
+        }
+    }
+    Told { good: true, got }
+}
+
+// The word at column x, of which the image may have all columns, some or none.
+fn word(
+    rings: &[u16],
+    ones: &[u16],
+    w: usize,
+    h: usize,
+    r: usize,
+    x: usize,
+    free: u64,
+    first: u64,
+) -> Told
+    requires { ⌜ (Sized w h × (length (now rings) ≡ h * w)) × ((r < h) × ((x < 256) × Ones (now ones))) ⌝ }
+    ensures { λ t. ⌜ Tells w h (now (rings .entry)) r x 0 64 free first t ⌝ }
+{
+    if w <= x {
+        return Told { good: true, got: 0 };
+    }
+    if w < x + 64 {
+        return crate::steps::pixels(rings, w, h, r, x, 0, w - x, free, first);
+    }
+    if free == 0 {
+        return Told {
+            good: crate::marks::gather(rings, r * w + x, 64) == 0,
+            got: 0,
+        };
+    }
+    eights(rings, ones, w, h, r, x, free, first)
+}
+
+// Whether the rings of row r are good, by its free and its first pixels; and whether each pixel of `hang` has one.
+pub fn row(
+    rings: &[u16],
+    ones: &[u16],
+    free: &[u64],
+    first: &[u64],
+    hang: &[u64],
+    w: usize,
+    h: usize,
+    r: usize,
+) -> Sure
+    requires fits { ⌜ (Sized w h × (length (now rings) ≡ h * w)) × ((r < h) × Ones (now ones)) ⌝ }
+    requires rows { ⌜ (length (now free) ≡ 4) × ((length (now first) ≡ 4) × (length (now hang) ≡ 4)) ⌝ }
+    ensures { λ s. ⌜ (s .rings ≡ true → (c : ℕ) → c < w → Good w h (wordBit (now (free .entry)) c) (wordBit (now (first .entry)) c) (now (rings .entry)) r c) ⌝ }
+    ensures { λ s. ⌜ (s .held ≡ true → (c : ℕ) → c < w → wordBit (now (hang .entry)) c ≡ true → 0 < getD (now (rings .entry)) (r * w + c) 0) ⌝ }
+{
+    let mut bare: u64 = 0;
+    let mut i = 0;
+    while i < 4 {
+        let t = word(rings, ones, w, h, r, i * 64, free[i], first[i]);
+        if !t.good {
+            return Sure { rings: false, held: false };
+        }
+        bare = bare | (hang[i] & !t.got);
+        i += 1;
+    }
+    Sure { rings: true, held: bare == 0 }
+}
