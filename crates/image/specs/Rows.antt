@@ -1,9 +1,9 @@
--- Planes in the packed form of a stack, and rows of bytes copied between it and scratch.
+-- Planes in the packed form of a stack, and the stretches of its layers.
 use mathlib.Core.Path.{_≡_}
 use mathlib.Core.Bool.{false}
 use mathlib.Core.List.{List}
 use Prim.Native.Nat.{ℕ, _+_, _*_, _/_, _%_, _<_, _≤_}
-use lib.ListN.{getD, length, take, drop}
+use lib.ListN.{length, take, drop}
 use Rattle.rules.specs.Images.{Plane, rowBytes, bytesOf}
 use Rattle.image.specs.Scratch.{bitOf}
 
@@ -24,17 +24,6 @@ pub record Clean (w h : ℕ) (s : List ℕ) : Type 0 where
 pub record Packs (w h : ℕ) (f : Plane) (s : List ℕ) : Type 0 where
   pub clean : Clean w h s
   pub pixels : (p : ℕ) → p < h * w → packed w s p ≡ f p
-
--- n bytes from i of src stand from j on, and all others are as they were
-pub record Run (n i j : ℕ) (src out was : List ℕ) : Type 0 where
-  pub inner : (k : ℕ) → k < n → getD out (j + k) 0 ≡ getD src (i + k) 0
-  pub before : (x : ℕ) → x < j → getD out x 0 ≡ getD was x 0
-  pub behind : (x : ℕ) → j + n ≤ x → getD out x 0 ≡ getD was x 0
-
--- h runs of n bytes: row r from a + r * sa to b + r * sb
-pub record Runs (h n a sa b sb : ℕ) (src out was : List ℕ) : Type 0 where
-  pub inner : (r k : ℕ) → r < h → k < n → getD out (b + r * sb + k) 0 ≡ getD src (a + r * sa + k) 0
-  pub outer : (x : ℕ) → ((r k : ℕ) → r < h → k < n → x ≡ b + r * sb + k → ⊥) → getD out x 0 ≡ getD was x 0
 
 -- the stretch of layer i, of planes of `size` elements
 abbrev pub plane : ℕ → ℕ → List ℕ → List ℕ

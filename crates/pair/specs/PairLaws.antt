@@ -19,10 +19,10 @@ use Rattle.laws.specs.Growing.{grown-same, grown-none}
 use Rattle.laws.specs.Tests.{bool-eq, clash, and-l, and-r, and-in, not-out, some-in, some-out}
 use Rattle.image.specs.Bits.{bit-and, bit-or, bit-not, zero-bit, byte-but-not}
 use Rattle.image.specs.Filling.{bit-here}
-use Rattle.image.specs.Loops.{Bits, Bits2, butNot}
-use Rattle.image.specs.Planes.{row-fits, scratch-op, scratch-seen}
+use Rattle.image.specs.Loops.{Bits, butNot}
+use Rattle.image.specs.Planes.{row-fits}
 use Rattle.image.specs.Rows.{packed, Clean, Packs}
-use Rattle.image.specs.Scratch.{bitOf, Sizes, Scratch, seen}
+use Rattle.image.specs.Scratch.{bitOf}
 use Rattle.pair.specs.Found.{Sized}
 use Rattle.pair.specs.Pairs.{pairRings, unexcused, pairSupport}
 
