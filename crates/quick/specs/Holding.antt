@@ -37,6 +37,21 @@ unfolding column
 four-words s at n a b c d e A B C D =
     columns a b c d (rowPart s at n) (first-word s at n a (omega arith) A) (whole-row s at n 1 b (omega arith) B) (whole-row s at n 2 c (omega arith) C) (whole-row s at n 3 d (omega arith) D) (λ k h. part-end s at n k (omega arith) h)
 
+-- what hangs, plane by plane
+pub hang-each : (u a l b : Bool) → (((u && not l) && not b) || ((a && not l) && not b)) ≡ ((u || a) && not (l || b))
+hang-each true true true b = refl
+hang-each true true false true = refl
+hang-each true true false false = refl
+hang-each true false true b = refl
+hang-each true false false true = refl
+hang-each true false false false = refl
+hang-each false true true b = refl
+hang-each false true false true = refl
+hang-each false true false false = refl
+hang-each false false true b = refl
+hang-each false false false true = refl
+hang-each false false false false = refl
+
 part-out : (s : List ℕ) (at n c : ℕ) → rowPart s at n c ≡ true → (c < n * 8) × (bitOf s (at * 8 + c) ≡ true)
 unfolding rowPart
 part-out s at n c e = (ltb-true c (n * 8) (and-l (ltb c (n * 8)) _ e), and-r (ltb c (n * 8)) _ e)

@@ -90,33 +90,16 @@ pub fn free_row(
     shadow
 }
 
-// The pixels of two planes, in the row of n bytes that starts at byte a.
-fn joined_row(low: &[u8], up: &[u8], a: usize, n: usize) -> Row
-    requires { ⌜ (n ≤ 32) × ((a + n ≤ length (now low)) × (a + n ≤ length (now up))) ⌝ }
-    ensures { λ r. ⌜ ((c : ℕ) → column r c ≡ (rowPart (now (low .entry)) a n c || rowPart (now (up .entry)) a n c)) ⌝ }
-{
-    if n == 32 {
-        let l0 = words::bytes::word(low, a);
-        let l1 = words::bytes::word(low, a + 8);
-        let l2 = words::bytes::word(low, a + 16);
-        let l3 = words::bytes::word(low, a + 24);
-        let l = Row { a: l0, b: l1, c: l2, d: l3 };
-        let u0 = words::bytes::word(up, a);
-        let u1 = words::bytes::word(up, a + 8);
-        let u2 = words::bytes::word(up, a + 16);
-        let u3 = words::bytes::word(up, a + 24);
-        let u = Row { a: u0, b: u1, c: u2, d: u3 };
-        return words::rows::either(l, u);
-    }
-    words::rows::either(words::rows::read(low, a, n), words::rows::read(up, a, n))
-}
-
 // The pixels of a row that hang: in one of the upper two planes, and in neither of the lower two.
 fn hang_row(low: &[u8], up: &[u8], below: &[u8], above: &[u8], at: usize, n: usize) -> Row
     requires { ⌜ (n ≤ 32) × (((at + n ≤ length (now low)) × (at + n ≤ length (now up))) × ((at + n ≤ length (now below)) × (at + n ≤ length (now above)))) ⌝ }
     ensures { λ r. ⌜ ((c : ℕ) → column r c ≡ hangPart (now (low .entry)) (now (up .entry)) (now (below .entry)) (now (above .entry)) at n c) ⌝ }
 {
-    words::rows::but_not(joined_row(up, above, at, n), joined_row(low, below, at, n))
+    let held = words::rows::read(below, at, n);
+    words::rows::either(
+        words::rows::but_not(shadow_row(low, up, at, n), held),
+        words::rows::but_not(shadow_row(low, above, at, n), held),
+    )
 }
 
 // The same, where any pixel of the pair hangs.
