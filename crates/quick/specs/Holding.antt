@@ -17,7 +17,10 @@ use Rattle.laws.specs.Neighbours.{touch-in}
 use Rattle.image.specs.Packed.{row-bit}
 use Rattle.image.specs.Rows.{packed, Clean}
 use Rattle.image.specs.Scratch.{bitOf}
-use Rattle.words.specs.Words.{rowPart, beside, Within}
+use Rattle.words.specs.Words.{rowPart, beside, Within, Digits, column}
+use Rattle.words.specs.declared.Row.{Row}
+use Rattle.words.specs.RowLaws.{columns, part-end}
+use Rattle.words.specs.WordLaws.{whole-row, first-word}
 use Rattle.places.specs.Search.{unheldHere}
 use Rattle.places.specs.Planes.{in-plane}
 use Rattle.places.specs.Rows.{bytes-in, byte-of}
@@ -27,9 +30,27 @@ use Rattle.quick.specs.Sound.{Good, Beside, Sound, seedPart, hangPart, N
 pub row-room : (w h y rb len : ℕ) → y < h → rb ≡ rowBytes w → h * rowBytes w ≤ len → y * rb + rb ≤ len
 row-room w h y rb len ly er el = omega (arith, bytes-in w h y (y * rb) rb (h * rowBytes w) refl er ly refl)
 
--- the shadow pixels of a row, from the two rows read
-pub shadow-part : (s u l u′ l′ : ℕ → Bool) → ((c : ℕ) → u c ≡ u′ c) → ((c : ℕ) → l c ≡ l′ c) → ((c : ℕ) → s c ≡ (u c && not (l c))) → (c : ℕ) → s c ≡ true → (u′ c && not (l′ c)) ≡ true
-shadow-part s u l u′ l′ eu el es c e = sym (ap₂ (λ (a b : Bool). a && not b) (eu c) (el c)) ∙ sym (es c) ∙ e
+-- a row of 32 bytes by its four words
+pub four-words : (s : List ℕ) (at n a b c d : ℕ) → n ≡ 32 → Digits 64 a (at * 8) (bitOf s) → Digits 64 b ((at + 8) * 8) (bitOf s) → Digits 64 c ((at + 16) * 8) (bitOf s) → Digits 64 d ((at + 24) * 8) (bitOf s)
+    → (k : ℕ) → column (record { a = a; b = b; c = c; d = d }) k ≡ rowPart s at n k
+unfolding column
+four-words s at n a b c d e A B C D =
+    columns a b c d (rowPart s at n) (first-word s at n a (omega arith) A) (whole-row s at n 1 b (omega arith) B) (whole-row s at n 2 c (omega arith) C) (whole-row s at n 3 d (omega arith) D) (λ k h. part-end s at n k (omega arith) h)
+
+-- what hangs, plane by plane
+pub hang-each : (u a l b : Bool) → (((u && not l) && not b) || ((a && not l) && not b)) ≡ ((u || a) && not (l || b))
+hang-each true true true b = refl
+hang-each true true false true = refl
+hang-each true true false false = refl
+hang-each true false true b = refl
+hang-each true false false true = refl
+hang-each true false false false = refl
+hang-each false true true b = refl
+hang-each false true false true = refl
+hang-each false true false false = refl
+hang-each false false true b = refl
+hang-each false false false true = refl
+hang-each false false false false = refl
 
 part-out : (s : List ℕ) (at n c : ℕ) → rowPart s at n c ≡ true → (c < n * 8) × (bitOf s (at * 8 + c) ≡ true)
 unfolding rowPart

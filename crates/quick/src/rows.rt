@@ -12,27 +12,26 @@ ghost use Rattle.words.specs.Words.{column, rowPart, beside};
 ghost use Rattle.planes.specs.Scratch.{Sizes, Framed, seen};
 ghost use Rattle.quick.specs.Sound.{hangPart, seedPart};
 
-// Row of n bytes from `at` on; the compiler puts this in place of its calls, where rows have 32 bytes.
-fn read(s: &[u8], at: usize, n: usize) -> Row
-    requires { ⌜ (at + n ≤ length (now s)) × (n ≤ 32) ⌝ }
-    ensures { λ r. ⌜ ((c : ℕ) → column r c ≡ rowPart (now (s .entry)) at n c) ⌝ }
-{
-    if n != 32 {
-        return words::rows::read(s, at, n);
-    }
-    let a = words::bytes::word(s, at);
-    let b = words::bytes::word(s, at + 8);
-    let c = words::bytes::word(s, at + 16);
-    let d = words::bytes::word(s, at + 24);
-    Row { a, b, c, d }
-}
-
-// The seeds of the row of n bytes that starts at byte a.
+// The seeds of the row of n bytes that starts at byte a. Words are joined as they are read, where a row has four: so the compiler puts
+// reading in place of a call.
 fn seed_row(low: &[u8], up: &[u8], a: usize, n: usize) -> Row
     requires { ⌜ (n ≤ 32) × ((a + n ≤ length (now low)) × (a + n ≤ length (now up))) ⌝ }
     ensures { λ r. ⌜ ((c : ℕ) → column r c ≡ seedPart (now (low .entry)) (now (up .entry)) a n c) ⌝ }
 {
-    words::rows::both(read(low, a, n), read(up, a, n))
+    if n == 32 {
+        let l0 = words::bytes::word(low, a);
+        let l1 = words::bytes::word(low, a + 8);
+        let l2 = words::bytes::word(low, a + 16);
+        let l3 = words::bytes::word(low, a + 24);
+        let l = Row { a: l0, b: l1, c: l2, d: l3 };
+        let u0 = words::bytes::word(up, a);
+        let u1 = words::bytes::word(up, a + 8);
+        let u2 = words::bytes::word(up, a + 16);
+        let u3 = words::bytes::word(up, a + 24);
+        let u = Row { a: u0, b: u1, c: u2, d: u3 };
+        return words::rows::both(l, u);
+    }
+    words::rows::both(words::rows::read(low, a, n), words::rows::read(up, a, n))
 }
 
 // The seeds of three rows joined, n bytes each, that start at bytes a, m and z.
@@ -45,6 +44,27 @@ pub fn seed_rows(low: &[u8], up: &[u8], a: usize, m: usize, z: usize, n: usize) 
         words::rows::either(seed_row(low, up, a, n), seed_row(low, up, m, n)),
         seed_row(low, up, z, n),
     )
+}
+
+// The shadow pixels of the row of n bytes that starts at byte a.
+fn shadow_row(low: &[u8], up: &[u8], a: usize, n: usize) -> Row
+    requires { ⌜ (n ≤ 32) × ((a + n ≤ length (now low)) × (a + n ≤ length (now up))) ⌝ }
+    ensures { λ r. ⌜ ((c : ℕ) → column r c ≡ (rowPart (now (up .entry)) a n c && not (rowPart (now (low .entry)) a n c))) ⌝ }
+{
+    if n == 32 {
+        let l0 = words::bytes::word(low, a);
+        let l1 = words::bytes::word(low, a + 8);
+        let l2 = words::bytes::word(low, a + 16);
+        let l3 = words::bytes::word(low, a + 24);
+        let l = Row { a: l0, b: l1, c: l2, d: l3 };
+        let u0 = words::bytes::word(up, a);
+        let u1 = words::bytes::word(up, a + 8);
+        let u2 = words::bytes::word(up, a + 16);
+        let u3 = words::bytes::word(up, a + 24);
+        let u = Row { a: u0, b: u1, c: u2, d: u3 };
+        return words::rows::but_not(u, l);
+    }
+    words::rows::but_not(words::rows::read(up, a, n), words::rows::read(low, a, n))
 }
 
 // The shadow pixels of row r, whose n bytes start at `at`; of a row with far rings those that are near by the plane `disc`.
@@ -63,7 +83,7 @@ pub fn free_row(
     ensures { λ f. ⌜ ((c : ℕ) → column f c ≡ true → (rowPart (now (up .entry)) at n c && not (rowPart (now (low .entry)) at n c)) ≡ true) ⌝ }
     ensures { λ f. ⌜ (far ≡ true → (w h : ℕ) → Sizes w h → Framed w h (now (disc .entry)) → r < h → (c : ℕ) → c < w → column f c ≡ true → near w h (q .0) (seen w (now (disc .entry))) (r * w + c) ≡ true) ⌝ }
 {
-    let shadow = words::rows::but_not(read(up, at, n), read(low, at, n));
+    let shadow = shadow_row(low, up, at, n);
     if far {
         return words::rows::both(shadow, crate::near::near_row(disc, halves, r, q));
     }
@@ -75,9 +95,11 @@ fn hang_row(low: &[u8], up: &[u8], below: &[u8], above: &[u8], at: usize, n: usi
     requires { ⌜ (n ≤ 32) × (((at + n ≤ length (now low)) × (at + n ≤ length (now up))) × ((at + n ≤ length (now below)) × (at + n ≤ length (now above)))) ⌝ }
     ensures { λ r. ⌜ ((c : ℕ) → column r c ≡ hangPart (now (low .entry)) (now (up .entry)) (now (below .entry)) (now (above .entry)) at n c) ⌝ }
 {
-    let over = words::rows::either(read(up, at, n), read(above, at, n));
-    let under = words::rows::either(read(low, at, n), read(below, at, n));
-    words::rows::but_not(over, under)
+    let held = words::rows::read(below, at, n);
+    words::rows::either(
+        words::rows::but_not(shadow_row(low, up, at, n), held),
+        words::rows::but_not(shadow_row(low, above, at, n), held),
+    )
 }
 
 // The same, where any pixel of the pair hangs.
