@@ -197,5 +197,17 @@ pub fn first(
     quick::eights::fill_ones(&mut ones);
     let mut halves = [0usize; 33];
     roots::halves(q.0, &mut halves);
-    in_pairs(part, sup, rings, &ones, &halves, w, h, n, q, quick::stack::trusted(q), ringed)
+    in_pairs(
+        part,
+        sup,
+        rings,
+        &ones,
+        &halves,
+        w,
+        h,
+        n,
+        q,
+        quick::stack::trusted(q),
+        ringed,
+    )
 }

@@ -19,7 +19,10 @@ fn further(disc: &[u64], halves: &[usize], k: usize, x: Row, q: Bound, d: usize)
     ensures { λ r. ⌜ (NearTo (q .0) k (d - 1) (halfWidth (q .0) (d - 1)) (now (disc .entry)) (column x) → NearTo (q .0) k d (halfWidth (q .0) d) (now (disc .entry)) (column r)) ⌝ }
 {
     let wide = words::rows::widen(x, Pixels(halves[d - 1] - halves[d]));
-    let beside = words::rows::either(planes::rows::row(disc, k - d), planes::rows::row(disc, k + d));
+    let beside = words::rows::either(
+        planes::rows::row(disc, k - d),
+        planes::rows::row(disc, k + d),
+    );
     words::rows::either(wide, beside)
 }
 

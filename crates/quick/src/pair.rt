@@ -78,7 +78,10 @@ fn row(
     let rb = limits::row_bytes(w);
     let hang = crate::rows::hang_some(low, up, below, above, r * rb, rb, some);
     if m == 0 {
-        return Sure { rings: true, held: !words::rows::any(hang) };
+        return Sure {
+            rings: true,
+            held: !words::rows::any(hang),
+        };
     }
     ringed_row(low, up, rings, ones, disc, halves, hang, w, h, r, q, t, m)
 }
@@ -119,9 +122,28 @@ fn rows(
     while r < h {
         let m = crate::marks::joined(marks, r * w, w);
         let some = crate::hangs::some(over, r * rb, rb);
-        let s = row(low, up, below, above, rings, ones, disc, halves, w, h, r, q, t, m, some);
+        let s = row(
+            low,
+            up,
+            below,
+            above,
+            rings,
+            ones,
+            disc,
+            halves,
+            w,
+            h,
+            r,
+            q,
+            t,
+            m,
+            some,
+        );
         if !s.rings {
-            return Sure { rings: false, held: false };
+            return Sure {
+                rings: false,
+                held: false,
+            };
         }
         held = both(held, s.held);
         r += 1;
@@ -153,12 +175,45 @@ pub fn pair(
     let mut marks = [0u16; 257];
     let most = crate::marks::mark(rings, &mut marks, h * w);
     if most == 0 {
-        return Sure { rings: true, held: hung == 0 };
+        return Sure {
+            rings: true,
+            held: hung == 0,
+        };
     }
     let mut disc = [0u64; 1610];
     if most <= t {
-        return rows(low, up, below, above, rings, &marks, &over, ones, &disc, halves, w, h, q, t);
+        return rows(
+            low,
+            up,
+            below,
+            above,
+            rings,
+            &marks,
+            &over,
+            ones,
+            &disc,
+            halves,
+            w,
+            h,
+            q,
+            t,
+        );
     }
     crate::layers::read(low, &mut disc, w, h);
-    rows(low, up, below, above, rings, &marks, &over, ones, &disc, halves, w, h, q, t)
+    rows(
+        low,
+        up,
+        below,
+        above,
+        rings,
+        &marks,
+        &over,
+        ones,
+        &disc,
+        halves,
+        w,
+        h,
+        q,
+        t,
+    )
 }

@@ -71,15 +71,7 @@ pub fn trusted(q: Bound) -> u16
 }
 
 // Whether no ring of the stack is bad and nothing in it is unheld. Only a yes is relied on.
-pub fn sure(
-    part: &[u8],
-    sup: &[u8],
-    rings: &[u16],
-    w: usize,
-    h: usize,
-    n: usize,
-    q: Bound,
-) -> bool
+pub fn sure(part: &[u8], sup: &[u8], rings: &[u16], w: usize, h: usize, n: usize, q: Bound) -> bool
     requires { ⌜ Whole w h n (now part) (now sup) (now rings) × (q .0 ≤ 1024) ⌝ }
     ensures { λ b. ⌜ (b ≡ true → (x : ℕ) → x < (n - 1) * (h * w) → Fine w h (q .0) (now (part .entry)) (now (sup .entry)) (now (rings .entry)) x) ⌝ }
 {

@@ -33,7 +33,10 @@ fn eights(
         } else {
             let t = crate::steps::pixels(rings, w, h, r, x, 8 * b, 8 * b + 8, free, first);
             if !t.good {
-                return Told { good: false, got: 0 };
+                return Told {
+                    good: false,
+                    got: 0,
+                };
             }
             got = crate::bits::patched(got, t.got, b);
             b += 1;
@@ -92,10 +95,16 @@ pub fn row(
     while i < 4 {
         let t = word(rings, ones, w, h, r, i * 64, free[i], first[i]);
         if !t.good {
-            return Sure { rings: false, held: false };
+            return Sure {
+                rings: false,
+                held: false,
+            };
         }
         bare = bare | (hang[i] & !t.got);
         i += 1;
     }
-    Sure { rings: true, held: bare == 0 }
+    Sure {
+        rings: true,
+        held: bare == 0,
+    }
 }
