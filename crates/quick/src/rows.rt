@@ -23,12 +23,22 @@ fn seed_row(low: &[u8], up: &[u8], a: usize, n: usize) -> Row
         let l1 = words::bytes::word(low, a + 8);
         let l2 = words::bytes::word(low, a + 16);
         let l3 = words::bytes::word(low, a + 24);
-        let l = Row { a: l0, b: l1, c: l2, d: l3 };
+        let l = Row {
+            a: l0,
+            b: l1,
+            c: l2,
+            d: l3,
+        };
         let u0 = words::bytes::word(up, a);
         let u1 = words::bytes::word(up, a + 8);
         let u2 = words::bytes::word(up, a + 16);
         let u3 = words::bytes::word(up, a + 24);
-        let u = Row { a: u0, b: u1, c: u2, d: u3 };
+        let u = Row {
+            a: u0,
+            b: u1,
+            c: u2,
+            d: u3,
+        };
         return words::rows::both(l, u);
     }
     words::rows::both(words::rows::read(low, a, n), words::rows::read(up, a, n))
@@ -56,12 +66,22 @@ fn shadow_row(low: &[u8], up: &[u8], a: usize, n: usize) -> Row
         let l1 = words::bytes::word(low, a + 8);
         let l2 = words::bytes::word(low, a + 16);
         let l3 = words::bytes::word(low, a + 24);
-        let l = Row { a: l0, b: l1, c: l2, d: l3 };
+        let l = Row {
+            a: l0,
+            b: l1,
+            c: l2,
+            d: l3,
+        };
         let u0 = words::bytes::word(up, a);
         let u1 = words::bytes::word(up, a + 8);
         let u2 = words::bytes::word(up, a + 16);
         let u3 = words::bytes::word(up, a + 24);
-        let u = Row { a: u0, b: u1, c: u2, d: u3 };
+        let u = Row {
+            a: u0,
+            b: u1,
+            c: u2,
+            d: u3,
+        };
         return words::rows::but_not(u, l);
     }
     words::rows::but_not(words::rows::read(up, a, n), words::rows::read(low, a, n))

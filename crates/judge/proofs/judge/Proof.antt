@@ -3,13 +3,6 @@ use mathlib.Core.Path.{_∙_, sym}
 use Rattle.judge.specs.Verdicts.{judged-by, judged-refused, verdict-ready}
 use Rattle.judge.proofs.judge.Statement.{statement}
 use Rattle.judge.proofs.judge.Tie as tie
-use Rattle.judge.proofs.judge.Reads as reads
-use Rattle.judge.proofs.judge.Lts as lts
-use Rattle.judge.proofs.refusals.refused.Reads as refused-reads
-use Rattle.judge.proofs.verdict.Reads as verdict-reads
-
-refused-requires : tie.Need-refused-requires
-refused-requires c κs = search needs
 
 returns : tie.Need-returns
 returns c = judged-refused (c .before .before .before .before .before .args .s) (c .before .before .before .before .before .args .part .now) (c .before .before .before .before .before .args .support .now) (c .before .before .before .before .before .args .rings .now) _ (c .before .refused .ensures) (c .if1 .taken)
@@ -21,4 +14,4 @@ returns-2 : tie.Need-returns-2
 returns-2 c = judged-by (c .before .before .before .before .before .before .args .s) (c .before .before .before .before .before .before .args .part .now) (c .before .before .before .before .before .before .args .support .now) (c .before .before .before .before .before .before .args .rings .now) _ (c .before .before .refused .ensures) (c .before .if1 .left) _ (c .verdict .ensures)
 
 pub judge-spec : {M : Type 1} → statement M
-judge-spec = tie.close (tie.spec refused-requires returns verdict-requires returns-2)
+judge-spec = tie.close (tie.spec (λ c κs. search needs) returns verdict-requires returns-2)

@@ -7,8 +7,6 @@ use Rattle.judge.specs.Verdicts.{area-pos, layer-most}
 use Rattle.rules.specs.Judging.{placeOf}
 use Rattle.judge.proofs.place_of.Statement.{statement}
 use Rattle.judge.proofs.place_of.Tie as tie
-use Rattle.judge.proofs.place_of.Reads as reads
-use Rattle.judge.proofs.place_of.Lts as lts
 
 mul-t5 : tie.Need-mul-t5
 mul-t5 c = omega (arith, area-fit _ _ (c .pre .0))
@@ -19,18 +17,9 @@ div-t6 c = area-pos _ _ (c .pre .0 .h-low) (c .pre .0 .w-low)
 add-t7 : tie.Need-add-t7
 add-t7 c = omega (arith, layer-most (c .args .x) (c .args .h * c .args .w))
 
-div-t8 : tie.Need-div-t8
-div-t8 c = search needs
-
-rem-t9 : tie.Need-rem-t9
-rem-t9 c = search needs
-
-rem-t10 : tie.Need-rem-t10
-rem-t10 c = search needs
-
 returns : tie.Need-returns
 unfolding placeOf
 returns c = refl
 
 pub place-of-spec : {M : Type 1} → statement M
-place-of-spec = tie.close (tie.spec mul-t5 div-t6 add-t7 div-t8 rem-t9 rem-t10 returns)
+place-of-spec = tie.close (tie.spec mul-t5 div-t6 add-t7 (λ c. search needs) (λ c. search needs) (λ c. search needs) returns)

@@ -5,13 +5,6 @@ use native.Mathlib.Omega.{arith}
 use borrow.Author.Needs.{needs}
 use Rattle.judge.proofs.verdict.Statement.{statement}
 use Rattle.judge.proofs.verdict.Tie as tie
-use Rattle.judge.proofs.verdict.Reads as reads
-use Rattle.judge.proofs.verdict.Lts as lts
-use Rattle.chains.proofs.search.first.Reads as first-reads
-use Rattle.judge.proofs.bound.Reads as bound-reads
-use Rattle.judge.proofs.place_of.Reads as place-of-reads
-use Rattle.places.proofs.overlaps.overlap_at.Reads as overlap-at-reads
-use Rattle.quick.proofs.stack.sure.Reads as sure-reads
 
 -- src/lib.rt:50:16
 mul-area : tie.Need-mul-area
@@ -20,10 +13,6 @@ mul-area c = omega (arith, area-most (c .before .before .before .args .s .w) (c 
 -- src/lib.rt:51:18
 mul-pixels : tie.Need-mul-pixels
 mul-pixels c = omega (arith, pixels-most (c .before .before .before .args .s) (c .before .before .before .pre .0))
-
--- src/lib.rt:52:18
-sub-pairs : tie.Need-sub-pairs
-sub-pairs c = search needs
 
 -- src/lib.rt:52:17
 mul-pairs : tie.Need-mul-pairs
@@ -84,21 +73,5 @@ returns-5 c = told-accepted (c .before .before .before .before .before .before .
 pub verdict-spec : {M : Type 1} → statement M
 verdict-spec =
     tie.close
-    (tie.spec
-    mul-area
-    mul-pixels
-    sub-pairs
-    mul-pairs
-    overlap-at-requires
-    place-of-requires
-    returns
-    bound-requires
-    sure-requires
-    returns-2
-    first-requires
-    place-of-requires-2
-    returns-3
-    first-requires-2
-    place-of-requires-3
-    returns-4
-    returns-5)
+    (tie.spec mul-area mul-pixels (λ c. search needs) mul-pairs overlap-at-requires place-of-requires returns bound-requires sure-requires
+    returns-2 first-requires place-of-requires-2 returns-3 first-requires-2 place-of-requires-3 returns-4 returns-5)

@@ -6,10 +6,6 @@ use Rattle.places.specs.Planes.{in-plane}
 use Rattle.places.specs.Rows.{area-fit, fit-of}
 use Rattle.chains.proofs.leaning.lends.Statement.{statement}
 use Rattle.chains.proofs.leaning.lends.Tie as tie
-use Rattle.chains.proofs.leaning.lends.Reads as reads
-use Rattle.chains.proofs.leaning.lends.Lts as lts
-use Rattle.chains.proofs.leaning.seed_at.Reads as seed-at-reads
-use Rattle.limits.proofs.row_bytes.Reads as row-bytes-reads
 
 mul-if1 : tie.Need-mul-if1
 mul-if1 c = omega (arith, in-plane _ _ _ _ (c .before .before .before .pre .0 .1 .1 .0) (c .before .before .before .pre .0 .1 .1 .1), area-fit _ _ (c .before .before .before .pre .0 .1 .0))
@@ -23,17 +19,11 @@ mul-if1-2 c = omega (arith, in-plane _ _ _ _ (c .before .before .before .pre .0 
 shared-slice-read-if1 : tie.Need-shared-slice-read-if1
 shared-slice-read-if1 c = omega (arith, in-plane _ _ _ _ (c .before .before .before .before .pre .0 .1 .1 .0) (c .before .before .before .before .pre .0 .1 .1 .1))
 
-sub-if1 : tie.Need-sub-if1
-sub-if1 c = search needs
-
 returns : tie.Need-returns
 returns c = sym (lends-not (c .before .before .before .before .before .args .w) (c .before .before .before .before .before .args .low .now) (c .before .before .before .before .before .args .up .now) (c .before .before .before .before .before .args .rings .now) (c .before .before .before .before .before .args .y) (c .before .before .before .before .before .args .x) (c .before .before .before .before .before .args .k) (c .if1 .taken))
 
 returns-2 : tie.Need-returns-2
 returns-2 c = sym (lends-ring (c .before .before .before .before .before .before .args .w) (c .before .before .before .before .before .before .args .low .now) (c .before .before .before .before .before .before .args .up .now) (c .before .before .before .before .before .before .args .rings .now) (c .before .before .before .before .before .before .args .y) (c .before .before .before .before .before .before .args .x) (c .before .before .before .before .before .before .args .k) (c .before .before .before .before .before .before .pre .0 .0) (c .before .if1 .left) (c .if2 .taken))
-
-row-bytes-requires : tie.Need-row-bytes-requires
-row-bytes-requires c κs = search needs
 
 mul-seed-at : tie.Need-mul-seed-at
 mul-seed-at c = omega (arith, fit-of (c .before .before .before .before .before .before .before .args .y) (c .row-bytes .result) 256 32 (omega (arith, c .before .before .before .before .before .before .before .pre .0 .1 .0 .h-high)) (c .row-bytes .ensures .1))
@@ -47,15 +37,5 @@ returns-3 c = c .seed-at .ensures ∙ lends-seed (c .before .before .before .bef
 pub lends-spec : {M : Type 1} → statement M
 lends-spec =
     tie.close
-    (tie.spec
-    mul-if1
-    add-if1
-    mul-if1-2
-    shared-slice-read-if1
-    sub-if1
-    returns
-    returns-2
-    row-bytes-requires
-    mul-seed-at
-    seed-at-requires
-    returns-3)
+    (tie.spec mul-if1 add-if1 mul-if1-2 shared-slice-read-if1 (λ c. search needs) returns returns-2 (λ c κs. search needs) mul-seed-at
+    seed-at-requires returns-3)

@@ -2,15 +2,6 @@ use borrow.Author.Needs.{needs}
 use mathlib.Core.Path.{_∙_, sym}
 use Rattle.chains.proofs.leaning.seed_at.Statement.{statement}
 use Rattle.chains.proofs.leaning.seed_at.Tie as tie
-use Rattle.chains.proofs.leaning.seed_at.Reads as reads
-use Rattle.chains.proofs.leaning.seed_at.Lts as lts
-use Rattle.places.proofs.bits.pixel_at.Reads as pixel-at-reads
-
-pixel-at-requires : tie.Need-pixel-at-requires
-pixel-at-requires c κs = search needs
-
-pixel-at-requires-2 : tie.Need-pixel-at-requires-2
-pixel-at-requires-2 c κs = search needs
 
 returns : tie.Need-returns
 returns c = c .pixel-at2 .ensures ∙ sym (rw (sym (c .before .before .pixel-at .ensures) ∙ c .before .if1 .taken))
@@ -19,4 +10,4 @@ returns-2 : tie.Need-returns-2
 returns-2 c = sym (rw (sym (c .before .pixel-at .ensures) ∙ c .if1 .left))
 
 pub seed-at-spec : {M : Type 1} → statement M
-seed-at-spec = tie.close (tie.spec pixel-at-requires pixel-at-requires-2 returns returns-2)
+seed-at-spec = tie.close (tie.spec (λ c κs. search needs) (λ c κs. search needs) returns returns-2)

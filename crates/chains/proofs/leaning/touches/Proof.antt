@@ -7,11 +7,6 @@ use Rattle.chains.specs.Eight.{col-more, own-lends, row-more, touch-hit,
 use Rattle.places.specs.Search.{lender}
 use Rattle.chains.proofs.leaning.touches.Statement.{statement}
 use Rattle.chains.proofs.leaning.touches.Tie as tie
-use Rattle.chains.proofs.leaning.touches.Reads as reads
-use Rattle.chains.proofs.leaning.touches.Lts as lts
-use Rattle.chains.proofs.leaning.lends.Reads as lends-reads
-use Rattle.places.proofs.bits.less.Reads as less-reads
-use Rattle.places.proofs.bits.smaller.Reads as smaller-reads
 
 abbrev Inv-loop : tie.InvT-loop
 Inv-loop low up rings w h r c k top bottom left right found₀ y x₀ found x = (found ≡ false) × (c - 1 ≤ x) × (x ≤ max left right) × ((n : ℕ) → n < x → c - 1 ≤ n → lender w low up rings k (y * w + n) ≡ false)
@@ -25,24 +20,6 @@ Inv-rows low up rings w h r c k top bottom left right found₀ y₀ found y = (f
 abbrev μ-rows : tie.MeasureT-rows
 μ-rows low up rings w h r c k top bottom left right found₀ y₀ found y = bottom - y
 
-less-requires : tie.Need-less-requires Inv-loop μ-loop Inv-rows μ-rows
-less-requires c κs = search needs
-
-add-smaller : tie.Need-add-smaller Inv-loop μ-loop Inv-rows μ-rows
-add-smaller c = search needs
-
-smaller-requires : tie.Need-smaller-requires Inv-loop μ-loop Inv-rows μ-rows
-smaller-requires c κs = search needs
-
-less-requires-2 : tie.Need-less-requires-2 Inv-loop μ-loop Inv-rows μ-rows
-less-requires-2 c κs = search needs
-
-add-smaller-2 : tie.Need-add-smaller-2 Inv-loop μ-loop Inv-rows μ-rows
-add-smaller-2 c = search needs
-
-smaller-requires-2 : tie.Need-smaller-requires-2 Inv-loop μ-loop Inv-rows μ-rows
-smaller-requires-2 c κs = search needs
-
 rows-holds : tie.Need-rows-holds Inv-loop μ-loop Inv-rows μ-rows
 rows-holds c = (refl, omega arith, omega arith, λ n l b d m lm a e. absurd (omega arith))
 
@@ -52,20 +29,8 @@ loop-holds c = (c .before .rows .inv .0, omega arith, omega arith, λ n l b. abs
 lends-requires : tie.Need-lends-requires Inv-loop μ-loop Inv-rows μ-rows
 lends-requires c κs = ((c .before .before .before .before .before .before .before .before .before .before .before .pre .0 .0, (c .before .before .before .before .before .before .before .before .before .before .before .pre .0 .1 .0, (omega arith, omega arith))), c .before .before .before .before .before .before .before .before .before .before .before .pre .1 .0)
 
-add-x : tie.Need-add-x Inv-loop μ-loop Inv-rows μ-rows
-add-x c = search needs
-
-loop-less : tie.Need-loop-less Inv-loop μ-loop Inv-rows μ-rows
-loop-less c = search needs
-
 loop-again : tie.Need-loop-again Inv-loop μ-loop Inv-rows μ-rows
 loop-again c = (c .before .before .before .loop .inv .0, omega arith, omega arith, col-more (λ n. lender (c .before .before .before .before .before .before .before .before .before .before .before .before .before .args .w) (c .before .before .before .before .before .before .before .before .before .before .before .before .before .args .low .now) (c .before .before .before .before .before .before .before .before .before .before .before .before .before .args .up .now) (c .before .before .before .before .before .before .before .before .before .before .before .before .before .args .rings .now) (c .before .before .before .before .before .before .before .before .before .before .before .before .before .args .k) (c .before .before .before .before .before .rows .y * c .before .before .before .before .before .before .before .before .before .before .before .before .before .args .w + n)) (c .before .before .before .before .before .before .before .before .before .before .before .before .before .args .c - 1) (c .before .before .before .loop .x) (c .before .before .before .loop .inv .3) (sym (c .before .lends .ensures) ∙ c .if1 .left))
-
-add-y : tie.Need-add-y Inv-loop μ-loop Inv-rows μ-rows
-add-y c = search needs
-
-rows-less : tie.Need-rows-less Inv-loop μ-loop Inv-rows μ-rows
-rows-less c = search needs
 
 rows-again : tie.Need-rows-again Inv-loop μ-loop Inv-rows μ-rows
 rows-again c = (c .before .loop .inv .0, omega arith, omega arith, row-more (c .before .before .before .before .before .before .before .before .before .before .before .args .w) (c .before .before .before .before .before .before .before .before .before .before .before .args .h) (c .before .before .before .before .before .before .before .before .before .before .before .args .r) (c .before .before .before .before .before .before .before .before .before .before .before .args .c) (lender (c .before .before .before .before .before .before .before .before .before .before .before .args .w) (c .before .before .before .before .before .before .before .before .before .before .before .args .low .now) (c .before .before .before .before .before .before .before .before .before .before .before .args .up .now) (c .before .before .before .before .before .before .before .before .before .before .before .args .rings .now) (c .before .before .before .before .before .before .before .before .before .before .before .args .k)) (c .before .before .before .rows .y) (c .before .loop .x) (c .before .before .before .rows .inv .3) (c .before .loop .inv .3) (omega arith))
@@ -79,25 +44,6 @@ returns-2 c = sym (touch-hit (c .before .before .before .before .before .before 
 pub touches-spec : {M : Type 1} → statement M
 touches-spec =
     tie.close
-    (tie.spec
-    Inv-loop
-    μ-loop
-    Inv-rows
-    μ-rows
-    less-requires
-    add-smaller
-    smaller-requires
-    less-requires-2
-    add-smaller-2
-    smaller-requires-2
-    rows-holds
-    loop-holds
-    lends-requires
-    add-x
-    loop-less
-    loop-again
-    add-y
-    rows-less
-    rows-again
-    returns
-    returns-2)
+    (tie.spec Inv-loop μ-loop Inv-rows μ-rows (λ c κs. search needs) (λ c. search needs) (λ c κs. search needs) (λ c κs. search needs)
+    (λ c. search needs) (λ c κs. search needs) rows-holds loop-holds lends-requires (λ c. search needs) (λ c. search needs) loop-again
+    (λ c. search needs) (λ c. search needs) rows-again returns returns-2)

@@ -3,10 +3,6 @@ use native.Mathlib.Omega.{arith}
 use borrow.Author.Needs.{needs}
 use Rattle.chains.proofs.pixels.amiss.Statement.{statement}
 use Rattle.chains.proofs.pixels.amiss.Tie as tie
-use Rattle.chains.proofs.pixels.amiss.Reads as reads
-use Rattle.chains.proofs.pixels.amiss.Lts as lts
-use Rattle.chains.proofs.pixels.bad.Reads as bad-reads
-use Rattle.chains.proofs.pixels.unheld.Reads as unheld-reads
 
 -- src/pixels.rt:95:9
 bad-requires : tie.Need-bad-requires

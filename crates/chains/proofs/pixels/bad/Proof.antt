@@ -10,12 +10,6 @@ use native.Mathlib.Omega.{arith}
 use borrow.Author.Needs.{needs}
 use Rattle.chains.proofs.pixels.bad.Statement.{statement}
 use Rattle.chains.proofs.pixels.bad.Tie as tie
-use Rattle.chains.proofs.pixels.bad.Reads as reads
-use Rattle.chains.proofs.pixels.bad.Lts as lts
-use Rattle.chains.proofs.leaning.touches.Reads as touches-reads
-use Rattle.limits.proofs.row_bytes.Reads as row-bytes-reads
-use Rattle.places.proofs.bits.pixel_at.Reads as pixel-at-reads
-use Rattle.quick.proofs.bits.column_at.Reads as column-at-reads
 
 -- src/pixels.rt:27:19
 mul-k : tie.Need-mul-k
@@ -36,10 +30,6 @@ shared-slice-read-k c = omega (arith, in-plane (c .before .before .before .befor
 -- src/pixels.rt:29:9
 returns : tie.Need-returns
 returns c = λ q e. no-ring (c .before .before .before .before .before .before .args .w) (c .before .before .before .before .before .before .args .h) q (packed (c .before .before .before .before .before .before .args .w) (c .before .before .before .before .before .before .args .low .now)) (packed (c .before .before .before .before .before .before .args .w) (c .before .before .before .before .before .before .args .up .now)) (λ o. getD (c .before .before .before .before .before .before .args .rings .now) o 0) (c .before .before .before .before .before .before .args .r * c .before .before .before .before .before .before .args .w + c .before .before .before .before .before .before .args .c) (c .if1 .taken)
-
--- src/pixels.rt:31:18
-row-bytes-requires : tie.Need-row-bytes-requires
-row-bytes-requires c κs = search needs
 
 -- src/pixels.rt:31:14
 mul-at : tie.Need-mul-at
@@ -80,19 +70,5 @@ returns-5 c = λ q e. by-near (c .before .before .before .before .before .before
 pub bad-spec : {M : Type 1} → statement M
 bad-spec =
     tie.close
-    (tie.spec
-    mul-k
-    add-k
-    mul-k-2
-    shared-slice-read-k
-    returns
-    row-bytes-requires
-    mul-at
-    pixel-at-requires
-    returns-2
-    pixel-at-requires-2
-    returns-3
-    touches-requires
-    returns-4
-    column-at-requires
-    returns-5)
+    (tie.spec mul-k add-k mul-k-2 shared-slice-read-k returns (λ c κs. search needs) mul-at pixel-at-requires returns-2 pixel-at-requires-2
+    returns-3 touches-requires returns-4 column-at-requires returns-5)

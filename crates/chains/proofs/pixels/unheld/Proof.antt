@@ -9,10 +9,6 @@ use native.Mathlib.Omega.{arith}
 use borrow.Author.Needs.{needs}
 use Rattle.chains.proofs.pixels.unheld.Statement.{statement}
 use Rattle.chains.proofs.pixels.unheld.Tie as tie
-use Rattle.chains.proofs.pixels.unheld.Reads as reads
-use Rattle.chains.proofs.pixels.unheld.Lts as lts
-use Rattle.limits.proofs.row_bytes.Reads as row-bytes-reads
-use Rattle.places.proofs.bits.pixel_at.Reads as pixel-at-reads
 
 -- src/pixels.rt:60:14
 mul-if1 : tie.Need-mul-if1
@@ -33,10 +29,6 @@ shared-slice-read-if1 c = omega (arith, in-plane (c .before .before .before .bef
 -- src/pixels.rt:61:9
 returns : tie.Need-returns
 returns c = held-ring (packed (c .before .before .before .before .before .before .before .args .w) (c .before .before .before .before .before .before .before .args .low .now)) (packed (c .before .before .before .before .before .before .before .args .w) (c .before .before .before .before .before .before .before .args .up .now)) (packed (c .before .before .before .before .before .before .before .args .w) (c .before .before .before .before .before .before .before .args .below .now)) (packed (c .before .before .before .before .before .before .before .args .w) (c .before .before .before .before .before .before .before .args .above .now)) (λ o. getD (c .before .before .before .before .before .before .before .args .rings .now) o 0) (c .before .before .before .before .before .before .before .args .r * c .before .before .before .before .before .before .before .args .w + c .before .before .before .before .before .before .before .args .c) (λ z. absurd (omega (arith, c .if1 .taken, z)))
-
--- src/pixels.rt:63:18
-row-bytes-requires : tie.Need-row-bytes-requires
-row-bytes-requires c κs = search needs
 
 -- src/pixels.rt:63:14
 mul-at : tie.Need-mul-at
@@ -77,19 +69,5 @@ returns-5 c = sym (pixel-is (c .before .before .before .before .before .before .
 pub unheld-spec : {M : Type 1} → statement M
 unheld-spec =
     tie.close
-    (tie.spec
-    mul-if1
-    add-if1
-    mul-if1-2
-    shared-slice-read-if1
-    returns
-    row-bytes-requires
-    mul-at
-    pixel-at-requires
-    returns-2
-    pixel-at-requires-2
-    returns-3
-    pixel-at-requires-3
-    returns-4
-    pixel-at-requires-4
-    returns-5)
+    (tie.spec mul-if1 add-if1 mul-if1-2 shared-slice-read-if1 returns (λ c κs. search needs) mul-at pixel-at-requires returns-2
+    pixel-at-requires-2 returns-3 pixel-at-requires-3 returns-4 pixel-at-requires-4 returns-5)

@@ -10,9 +10,6 @@ use native.Mathlib.Omega.{arith}
 use borrow.Author.Needs.{needs}
 use Rattle.chains.proofs.search.in_columns.Statement.{statement}
 use Rattle.chains.proofs.search.in_columns.Tie as tie
-use Rattle.chains.proofs.search.in_columns.Reads as reads
-use Rattle.chains.proofs.search.in_columns.Lts as lts
-use Rattle.chains.proofs.pixels.amiss.Reads as amiss-reads
 
 abbrev Inv-loop : tie.InvT-loop
 Inv-loop low up below above rings close w h r ringed c₀ c = (c ≤ w) × ((q : ℕ) → ((k : ℕ) → k < w → wordBit close k ≡ near w h q (packed w low) (r * w + k)) → (y : ℕ) → 0 ≤ y → y < c → amissHere ringed w h q low up below above rings (r * w + y) ≡ false)
@@ -32,14 +29,6 @@ amiss-requires c κs = (((c .before .before .before .before .before .before .bef
 returns : tie.Need-returns Inv-loop μ-loop
 returns c = λ q n. least-one 0 (c .before .before .before .before .before .before .before .before .before .before .args .w) _ (c .before .before .before .loop .c) (omega arith) (c .before .before .loop-test .taken) (c .before .before .before .loop .inv .1 q n) (sym (c .before .amiss .ensures q (n (c .before .before .before .loop .c) (c .before .before .loop-test .taken))) ∙ c .if1 .taken)
 
--- src/search.rt:38:9
-add-c : tie.Need-add-c Inv-loop μ-loop
-add-c c = search needs
-
--- src/search.rt:34:5
-loop-less : tie.Need-loop-less Inv-loop μ-loop
-loop-less c = search needs
-
 -- src/search.rt:34:5
 loop-again : tie.Need-loop-again Inv-loop μ-loop
 loop-again c = (omega arith, λ q n. fails-more 0 (λ y. amissHere (c .before .before .before .before .before .before .before .before .before .before .args .ringed) (c .before .before .before .before .before .before .before .before .before .before .args .w) (c .before .before .before .before .before .before .before .before .before .before .args .h) q (c .before .before .before .before .before .before .before .before .before .before .args .low .now) (c .before .before .before .before .before .before .before .before .before .before .args .up .now) (c .before .before .before .before .before .before .before .before .before .before .args .below .now) (c .before .before .before .before .before .before .before .before .before .before .args .above .now) (c .before .before .before .before .before .before .before .before .before .before .args .rings .now) (c .before .before .before .before .before .before .before .before .before .before .args .r * c .before .before .before .before .before .before .before .before .before .before .args .w + y)) (c .before .before .before .loop .c) (c .before .before .before .loop .inv .1 q n) (sym (c .before .amiss .ensures q (n (c .before .before .before .loop .c) (c .before .before .loop-test .taken))) ∙ c .if1 .left))
@@ -51,13 +40,4 @@ returns-2 c = λ q n. least-none 0 (c .before .before .before .before .before .b
 pub in-columns-spec : {M : Type 1} → statement M
 in-columns-spec =
     tie.close
-    (tie.spec
-    Inv-loop
-    μ-loop
-    loop-holds
-    amiss-requires
-    returns
-    add-c
-    loop-less
-    loop-again
-    returns-2)
+    (tie.spec Inv-loop μ-loop loop-holds amiss-requires returns (λ c. search needs) (λ c. search needs) loop-again returns-2)

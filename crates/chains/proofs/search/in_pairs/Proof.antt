@@ -10,10 +10,6 @@ use native.Mathlib.Omega.{arith}
 use borrow.Author.Needs.{needs}
 use Rattle.chains.proofs.search.in_pairs.Statement.{statement}
 use Rattle.chains.proofs.search.in_pairs.Tie as tie
-use Rattle.chains.proofs.search.in_pairs.Reads as reads
-use Rattle.chains.proofs.search.in_pairs.Lts as lts
-use Rattle.chains.proofs.search.in_pair.Reads as in-pair-reads
-use Rattle.limits.proofs.row_bytes.Reads as row-bytes-reads
 
 abbrev Inv-loop : tie.InvT-loop
 Inv-loop part sup rings ones halves w h n q t ringed bytes area at₀ x₀ i₀ at x i = (i ≤ n - 1) × (at ≡ i * bytes) × (x ≡ i * area) × ((y : ℕ) → y < x → y < (n - 1) * (h * w) → flat w h (amissIn ringed w h (q .0) part sup rings) y ≡ false)
@@ -54,48 +50,16 @@ add-next : tie.Need-add-next Inv-loop μ-loop
 add-next c = omega (arith, pair-fits (c .before .before .before .before .before .before .before .before .args .w) (c .before .before .before .before .before .before .before .before .args .h) (c .before .before .before .before .before .before .before .before .args .n) (c .before .loop .i) (c .before .before .row-bytes .result) (c .before .loop .at) (c .before .loop .x) (c .before .before .before .before .before .before .before .before .args .part .now) (c .before .before .before .before .before .before .before .before .args .sup .now) (c .before .before .before .before .before .before .before .before .args .rings .now) (c .before .before .before .before .before .before .before .before .pre .0) (c .before .before .row-bytes .ensures .0) (c .before .before .row-bytes .ensures .1) (c .before .loop .inv .1) (c .before .loop .inv .2) (omega (arith, c .loop-test .taken)))
 
 -- src/search.rt:156:13
-sub-in-pair : tie.Need-sub-in-pair Inv-loop μ-loop
-sub-in-pair c = search needs
-
--- src/search.rt:156:13
-part-in-pair-start : tie.Need-part-in-pair-start Inv-loop μ-loop
-part-in-pair-start c = search needs
-
--- src/search.rt:156:13
 part-in-pair-end : tie.Need-part-in-pair-end Inv-loop μ-loop
 part-in-pair-end c = omega (arith, pair-bytes (c .before .before .before .before .before .before .before .before .args .w) (c .before .before .before .before .before .before .before .before .args .h) (c .before .before .before .before .before .before .before .before .args .n) (c .before .loop .i) (c .before .before .row-bytes .result) (c .before .loop .at) (c .before .loop .x) (c .before .before .before .before .before .before .before .before .args .part .now) (c .before .before .before .before .before .before .before .before .args .sup .now) (c .before .before .before .before .before .before .before .before .args .rings .now) (c .before .before .before .before .before .before .before .before .pre .0) (c .before .before .row-bytes .ensures .0) (c .before .before .row-bytes .ensures .1) (c .before .loop .inv .1) (c .before .loop .inv .2) (omega (arith, c .loop-test .taken)))
-
--- src/search.rt:157:13
-sub-in-pair-2 : tie.Need-sub-in-pair-2 Inv-loop μ-loop
-sub-in-pair-2 c = search needs
-
--- src/search.rt:157:13
-part-in-pair-start-2 : tie.Need-part-in-pair-start-2 Inv-loop μ-loop
-part-in-pair-start-2 c = search needs
 
 -- src/search.rt:157:13
 part-in-pair-end-2 : tie.Need-part-in-pair-end-2 Inv-loop μ-loop
 part-in-pair-end-2 c = omega (arith, pair-bytes (c .before .before .before .before .before .before .before .before .before .args .w) (c .before .before .before .before .before .before .before .before .before .args .h) (c .before .before .before .before .before .before .before .before .before .args .n) (c .before .before .loop .i) (c .before .before .before .row-bytes .result) (c .before .before .loop .at) (c .before .before .loop .x) (c .before .before .before .before .before .before .before .before .before .args .part .now) (c .before .before .before .before .before .before .before .before .before .args .sup .now) (c .before .before .before .before .before .before .before .before .before .args .rings .now) (c .before .before .before .before .before .before .before .before .before .pre .0) (c .before .before .before .row-bytes .ensures .0) (c .before .before .before .row-bytes .ensures .1) (c .before .before .loop .inv .1) (c .before .before .loop .inv .2) (omega (arith, c .before .loop-test .taken)))
 
 -- src/search.rt:158:13
-sub-in-pair-3 : tie.Need-sub-in-pair-3 Inv-loop μ-loop
-sub-in-pair-3 c = search needs
-
--- src/search.rt:158:13
-part-in-pair-start-3 : tie.Need-part-in-pair-start-3 Inv-loop μ-loop
-part-in-pair-start-3 c = search needs
-
--- src/search.rt:158:13
 part-in-pair-end-3 : tie.Need-part-in-pair-end-3 Inv-loop μ-loop
 part-in-pair-end-3 c = omega (arith, pair-bytes (c .before .before .before .before .before .before .before .before .before .before .args .w) (c .before .before .before .before .before .before .before .before .before .before .args .h) (c .before .before .before .before .before .before .before .before .before .before .args .n) (c .before .before .before .loop .i) (c .before .before .before .before .row-bytes .result) (c .before .before .before .loop .at) (c .before .before .before .loop .x) (c .before .before .before .before .before .before .before .before .before .before .args .part .now) (c .before .before .before .before .before .before .before .before .before .before .args .sup .now) (c .before .before .before .before .before .before .before .before .before .before .args .rings .now) (c .before .before .before .before .before .before .before .before .before .before .pre .0) (c .before .before .before .before .row-bytes .ensures .0) (c .before .before .before .before .row-bytes .ensures .1) (c .before .before .before .loop .inv .1) (c .before .before .before .loop .inv .2) (omega (arith, c .before .before .loop-test .taken)))
-
--- src/search.rt:159:13
-sub-in-pair-4 : tie.Need-sub-in-pair-4 Inv-loop μ-loop
-sub-in-pair-4 c = search needs
-
--- src/search.rt:159:13
-part-in-pair-start-4 : tie.Need-part-in-pair-start-4 Inv-loop μ-loop
-part-in-pair-start-4 c = search needs
 
 -- src/search.rt:159:13
 part-in-pair-end-4 : tie.Need-part-in-pair-end-4 Inv-loop μ-loop
@@ -104,14 +68,6 @@ part-in-pair-end-4 c = omega (arith, pair-bytes (c .before .before .before .befo
 -- src/search.rt:160:13
 mul-in-pair : tie.Need-mul-in-pair Inv-loop μ-loop
 mul-in-pair c = omega (arith, pair-fits (c .before .before .before .before .before .before .before .before .before .before .before .before .args .w) (c .before .before .before .before .before .before .before .before .before .before .before .before .args .h) (c .before .before .before .before .before .before .before .before .before .before .before .before .args .n) (c .before .before .before .before .before .loop .i) (c .before .before .before .before .before .before .row-bytes .result) (c .before .before .before .before .before .loop .at) (c .before .before .before .before .before .loop .x) (c .before .before .before .before .before .before .before .before .before .before .before .before .args .part .now) (c .before .before .before .before .before .before .before .before .before .before .before .before .args .sup .now) (c .before .before .before .before .before .before .before .before .before .before .before .before .args .rings .now) (c .before .before .before .before .before .before .before .before .before .before .before .before .pre .0) (c .before .before .before .before .before .before .row-bytes .ensures .0) (c .before .before .before .before .before .before .row-bytes .ensures .1) (c .before .before .before .before .before .loop .inv .1) (c .before .before .before .before .before .loop .inv .2) (omega (arith, c .before .before .before .before .loop-test .taken)))
-
--- src/search.rt:160:13
-sub-in-pair-5 : tie.Need-sub-in-pair-5 Inv-loop μ-loop
-sub-in-pair-5 c = search needs
-
--- src/search.rt:160:13
-part-in-pair-start-5 : tie.Need-part-in-pair-start-5 Inv-loop μ-loop
-part-in-pair-start-5 c = search needs
 
 -- src/search.rt:160:13
 part-in-pair-end-5 : tie.Need-part-in-pair-end-5 Inv-loop μ-loop
@@ -134,10 +90,6 @@ add-i : tie.Need-add-i Inv-loop μ-loop
 add-i c = omega (arith, c .before .before .before .before .before .before .before .before .before .before .before .before .before .before .before .pre .0 .n-high, c .before .before .before .before .before .before .before .loop-test .taken)
 
 -- src/search.rt:151:5
-loop-less : tie.Need-loop-less Inv-loop μ-loop
-loop-less c = search needs
-
--- src/search.rt:151:5
 loop-again : tie.Need-loop-again Inv-loop μ-loop
 loop-again c = (omega (arith, c .before .before .before .before .before .before .before .loop-test .taken), stretch-next _ _ _ (c .before .before .before .before .before .before .before .before .loop .inv .1), stretch-next _ _ _ (c .before .before .before .before .before .before .before .before .loop .inv .2), stretch-more ((c .before .before .before .before .before .before .before .before .before .before .before .before .before .before .before .args .n - 1) * (c .before .before .before .before .before .before .before .before .before .before .before .before .before .before .before .args .h * c .before .before .before .before .before .before .before .before .before .before .before .before .before .before .before .args .w)) _ _ (c .before .before .before .before .before .before .before .before .loop .x) (c .before .before .before .before .before .before .before .before .before .before .before .before .before .before .before .args .h * c .before .before .before .before .before .before .before .before .before .before .before .before .before .before .before .args .w) (c .before .in-pair .result) (c .before .before .before .before .before .before .before .before .loop .inv .3) (amiss-pair (c .before .before .before .before .before .before .before .before .before .before .before .before .before .before .before .args .w) (c .before .before .before .before .before .before .before .before .before .before .before .before .before .before .before .args .h) (c .before .before .before .before .before .before .before .before .before .before .before .before .before .before .before .args .n) (c .before .before .before .before .before .before .before .before .loop .i) (c .before .before .before .before .before .before .before .before .before .row-bytes .result) (c .before .before .before .before .before .before .before .before .loop .at) (c .before .before .before .before .before .before .before .before .loop .x) (c .before .before .before .before .before .before .before .before .before .before .before .before .before .before .before .args .part .now) (c .before .before .before .before .before .before .before .before .before .before .before .before .before .before .before .args .sup .now) (c .before .before .before .before .before .before .before .before .before .before .before .before .before .before .before .args .rings .now) (c .before .before .before .before .before .before .before .before .before .before .before .before .before .before .before .pre .0) (c .before .before .before .before .before .before .before .before .before .row-bytes .ensures .0) (c .before .before .before .before .before .before .before .before .loop .inv .1) (c .before .before .before .before .before .before .before .before .loop .inv .2) (omega (arith, c .before .before .before .before .before .before .before .loop-test .taken)) (c .before .before .before .before .before .before .before .before .before .before .before .before .before .before .before .args .ringed) (c .before .before .before .before .before .before .before .before .before .before .before .before .before .before .before .args .q .0)) (c .before .in-pair .ensures) (c .before .before .before .before .before .before .before .before .loop .x + c .before .before .before .before .before .before .before .before .before .before .before .before .before .before .before .args .h * c .before .before .before .before .before .before .before .before .before .before .before .before .before .before .before .args .w) (c .if1 .left) (λ y a b. a))
 
@@ -148,37 +100,7 @@ returns-2 c = least-end ((c .before .before .before .before .before .before .bef
 pub in-pairs-spec : {M : Type 1} → statement M
 in-pairs-spec =
     tie.close
-    (tie.spec
-    Inv-loop
-    μ-loop
-    row-bytes-requires
-    mul-bytes
-    mul-area
-    loop-holds
-    add-loop
-    add-mid
-    add-end
-    add-next
-    sub-in-pair
-    part-in-pair-start
-    part-in-pair-end
-    sub-in-pair-2
-    part-in-pair-start-2
-    part-in-pair-end-2
-    sub-in-pair-3
-    part-in-pair-start-3
-    part-in-pair-end-3
-    sub-in-pair-4
-    part-in-pair-start-4
-    part-in-pair-end-4
-    mul-in-pair
-    sub-in-pair-5
-    part-in-pair-start-5
-    part-in-pair-end-5
-    in-pair-requires
-    add-result
-    returns
-    add-i
-    loop-less
-    loop-again
-    returns-2)
+    (tie.spec Inv-loop μ-loop row-bytes-requires mul-bytes mul-area loop-holds add-loop add-mid add-end add-next (λ c. search needs)
+    (λ c. search needs) part-in-pair-end (λ c. search needs) (λ c. search needs) part-in-pair-end-2 (λ c. search needs) (λ c. search needs)
+    part-in-pair-end-3 (λ c. search needs) (λ c. search needs) part-in-pair-end-4 mul-in-pair (λ c. search needs) (λ c. search needs)
+    part-in-pair-end-5 in-pair-requires add-result returns add-i (λ c. search needs) loop-again returns-2)

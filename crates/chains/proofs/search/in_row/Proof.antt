@@ -4,31 +4,6 @@ use native.Mathlib.Omega.{arith}
 use borrow.Author.Needs.{needs}
 use Rattle.chains.proofs.search.in_row.Statement.{statement}
 use Rattle.chains.proofs.search.in_row.Tie as tie
-use Rattle.chains.proofs.search.in_row.Reads as reads
-use Rattle.chains.proofs.search.in_row.Lts as lts
-use Rattle.chains.proofs.search.in_columns.Reads as in-columns-reads
-use Rattle.planes.proofs.nearness.near_row.Reads as near-row-reads
-use Rattle.words.proofs.rows.put.Reads as put-reads
-
--- src/search.rt:62:22
-slice-aggregate-put : tie.Need-slice-aggregate-put
-slice-aggregate-put c = search needs
-
--- src/search.rt:62:37
-near-row-requires : tie.Need-near-row-requires
-near-row-requires c κs = search needs
-
--- src/search.rt:62:5
-put-requires : tie.Need-put-requires
-put-requires c κs = search needs
-
--- src/search.rt:63:46
-slice-aggregate-in-columns : tie.Need-slice-aggregate-in-columns
-slice-aggregate-in-columns c = search needs
-
--- src/search.rt:63:5
-in-columns-requires : tie.Need-in-columns-requires
-in-columns-requires c κs = search needs
 
 -- src/search.rt:44:1
 returns : tie.Need-returns
@@ -37,10 +12,4 @@ returns c = c .in-columns .ensures (c .before .before .before .before .before .b
 pub in-row-spec : {M : Type 1} → statement M
 in-row-spec =
     tie.close
-    (tie.spec
-    slice-aggregate-put
-    near-row-requires
-    put-requires
-    slice-aggregate-in-columns
-    in-columns-requires
-    returns)
+    (tie.spec (λ c. search needs) (λ c κs. search needs) (λ c κs. search needs) (λ c. search needs) (λ c κs. search needs) returns)

@@ -8,9 +8,6 @@ use native.Mathlib.Omega.{arith}
 use borrow.Author.Needs.{needs}
 use Rattle.chains.proofs.search.in_rows.Statement.{statement}
 use Rattle.chains.proofs.search.in_rows.Tie as tie
-use Rattle.chains.proofs.search.in_rows.Reads as reads
-use Rattle.chains.proofs.search.in_rows.Lts as lts
-use Rattle.chains.proofs.search.in_row.Reads as in-row-reads
 
 abbrev Inv-loop : tie.InvT-loop
 Inv-loop low up below above rings disc w h q ringed x₀ r₀ x r = (r ≤ h) × (x ≡ r * w) × ((y : ℕ) → y < x → y < h * w → amissHere ringed w h (q .0) low up below above rings y ≡ false)
@@ -43,10 +40,6 @@ add-r : tie.Need-add-r Inv-loop μ-loop
 add-r c = omega (arith, c .before .before .before .before .before .before .before .before .before .before .pre .0 .0 .h-high)
 
 -- src/search.rt:85:5
-loop-less : tie.Need-loop-less Inv-loop μ-loop
-loop-less c = search needs
-
--- src/search.rt:85:5
 loop-again : tie.Need-loop-again Inv-loop μ-loop
 loop-again c = (omega arith, stretch-next _ _ _ (c .before .before .before .loop .inv .1), stretch-more (c .before .before .before .before .before .before .before .before .before .before .args .h * c .before .before .before .before .before .before .before .before .before .before .args .w) _ _ (c .before .before .before .loop .x) (c .before .before .before .before .before .before .before .before .before .before .args .w) (c .before .in-row .result) (c .before .before .before .loop .inv .2) (amiss-row (c .before .before .before .before .before .before .before .before .before .before .args .ringed) (c .before .before .before .before .before .before .before .before .before .before .args .w) (c .before .before .before .before .before .before .before .before .before .before .args .h) (c .before .before .before .before .before .before .before .before .before .before .args .q .0) (c .before .before .before .before .before .before .before .before .before .before .args .low .now) (c .before .before .before .before .before .before .before .before .before .before .args .up .now) (c .before .before .before .before .before .before .before .before .before .before .args .below .now) (c .before .before .before .before .before .before .before .before .before .before .args .above .now) (c .before .before .before .before .before .before .before .before .before .before .args .rings .now) (c .before .before .before .loop .r) (c .before .before .before .loop .x) (c .before .before .before .loop .inv .1)) (c .before .in-row .ensures) (c .before .before .before .loop .x + c .before .before .before .before .before .before .before .before .before .before .args .w) (c .if1 .left) (λ y a b. a))
 
@@ -57,15 +50,4 @@ returns-2 c = least-end (c .before .before .before .before .before .before .befo
 pub in-rows-spec : {M : Type 1} → statement M
 in-rows-spec =
     tie.close
-    (tie.spec
-    Inv-loop
-    μ-loop
-    loop-holds
-    in-row-requires
-    add-result
-    returns
-    add-x
-    add-r
-    loop-less
-    loop-again
-    returns-2)
+    (tie.spec Inv-loop μ-loop loop-holds in-row-requires add-result returns add-x add-r (λ c. search needs) loop-again returns-2)

@@ -3,8 +3,6 @@ use native.Mathlib.Omega.{arith}
 use borrow.Author.Needs.{needs}
 use Rattle.chains.proofs.search.sure.Statement.{statement}
 use Rattle.chains.proofs.search.sure.Tie as tie
-use Rattle.chains.proofs.search.sure.Reads as reads
-use Rattle.chains.proofs.search.sure.Lts as lts
 
 -- src/search.rt:96:1
 returns : tie.Need-returns

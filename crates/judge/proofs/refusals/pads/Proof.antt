@@ -6,9 +6,6 @@ use Rattle.laws.specs.Limits.{rows-most}
 use Rattle.rules.specs.Images.{rowBytes, rowsOf}
 use Rattle.judge.proofs.refusals.pads.Statement.{statement}
 use Rattle.judge.proofs.refusals.pads.Tie as tie
-use Rattle.judge.proofs.refusals.pads.Reads as reads
-use Rattle.judge.proofs.refusals.pads.Lts as lts
-use Rattle.limits.proofs.padding_set.Reads as padding-set-reads
 
 mul-rows : tie.Need-mul-rows
 mul-rows c = omega (arith, rows-most (c .before .before .before .args .s) (c .before .before .before .pre .0), rows-is (c .before .before .before .args .s))

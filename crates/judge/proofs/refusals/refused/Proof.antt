@@ -4,14 +4,6 @@ use Rattle.judge.specs.Verdicts.{by-lengths, by-pads, by-settings, lengt
 use Rattle.laws.specs.Limits.{ranged}
 use Rattle.judge.proofs.refusals.refused.Statement.{statement}
 use Rattle.judge.proofs.refusals.refused.Tie as tie
-use Rattle.judge.proofs.refusals.refused.Reads as reads
-use Rattle.judge.proofs.refusals.refused.Lts as lts
-use Rattle.limits.proofs.length_refusal.Reads as length-refusal-reads
-use Rattle.judge.proofs.refusals.pads.Reads as pads-reads
-use Rattle.limits.proofs.settings_refusal.Reads as settings-refusal-reads
-
-settings-refusal-requires : tie.Need-settings-refusal-requires
-settings-refusal-requires c κs = search needs
 
 returns : tie.Need-returns
 returns c = by-settings (c .before .before .before .before .before .args .s) (c .before .before .before .before .before .args .part .now) (c .before .before .before .before .before .args .support .now) _ _ (c .before .settings-refusal .ensures) (c .if1 .taken)
@@ -31,4 +23,4 @@ returns-3 c = by-pads (c .before .before .before .before .before .before .before
 pub refused-spec : {M : Type 1} → statement M
 refused-spec =
     tie.close
-    (tie.spec settings-refusal-requires returns length-refusal-requires returns-2 pads-requires returns-3)
+    (tie.spec (λ c κs. search needs) returns length-refusal-requires returns-2 pads-requires returns-3)

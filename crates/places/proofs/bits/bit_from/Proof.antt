@@ -8,9 +8,6 @@ use Rattle.places.specs.Finding.{fails-more, least-none, least-one}
 use Rattle.rules.specs.Images.{bitAt}
 use Rattle.places.proofs.bits.bit_from.Statement.{statement}
 use Rattle.places.proofs.bits.bit_from.Tie as tie
-use Rattle.places.proofs.bits.bit_from.Reads as reads
-use Rattle.places.proofs.bits.bit_from.Lts as lts
-use Rattle.places.proofs.bits.bit.Reads as bit-reads
 
 abbrev Inv-loop : tie.InvT-loop
 Inv-loop m from to k₀ k = (from ≤ k) × (k ≤ to) × ((y : ℕ) → from ≤ y → y < k → bitAt m y ≡ false)
@@ -24,17 +21,8 @@ returns c = least-none _ _ _ (c .before .pre .0) (λ y l b. no-bit (c .before .a
 loop-holds : tie.Need-loop-holds Inv-loop μ-loop
 loop-holds c = (search needs, search needs, λ y l b. absurd (omega arith))
 
-bit-requires : tie.Need-bit-requires Inv-loop μ-loop
-bit-requires c κs = search needs
-
 returns-2 : tie.Need-returns-2 Inv-loop μ-loop
 returns-2 c = least-one _ _ _ (c .before .before .before .loop .k) (c .before .before .before .loop .inv .0) (search needs) (c .before .before .before .loop .inv .2) (sym (c .before .bit .ensures) ∙ c .if2 .taken)
-
-add-k : tie.Need-add-k Inv-loop μ-loop
-add-k c = search needs
-
-loop-less : tie.Need-loop-less Inv-loop μ-loop
-loop-less c = search needs
 
 loop-again : tie.Need-loop-again Inv-loop μ-loop
 loop-again c = (search needs, search needs, fails-more _ _ (c .before .before .before .loop .k) (c .before .before .before .loop .inv .2) (sym (c .before .bit .ensures) ∙ c .if2 .left))
@@ -45,14 +33,5 @@ returns-3 c = least-none _ _ _ (search needs) (λ y l b. c .before .loop .inv .2
 pub bit-from-spec : {M : Type 1} → statement M
 bit-from-spec =
     tie.close
-    (tie.spec
-    Inv-loop
-    μ-loop
-    returns
-    loop-holds
-    bit-requires
-    returns-2
-    add-k
-    loop-less
-    loop-again
+    (tie.spec Inv-loop μ-loop returns loop-holds (λ c κs. search needs) returns-2 (λ c. search needs) (λ c. search needs) loop-again
     returns-3)

@@ -9,8 +9,6 @@ use Rattle.places.specs.Rows.{apart-byte, gather-more}
 use Rattle.rules.specs.Images.{bitAt}
 use Rattle.places.proofs.overlaps.apart.Statement.{statement}
 use Rattle.places.proofs.overlaps.apart.Tie as tie
-use Rattle.places.proofs.overlaps.apart.Reads as reads
-use Rattle.places.proofs.overlaps.apart.Lts as lts
 
 abbrev Inv-loop : tie.InvT-loop
 Inv-loop part sup n all₀ j₀ all j = (j ≤ n) × (all ≡ 0 → (i : ℕ) → i < j → (k : ℕ) → k < 8 → (bitAt (getD sup i 0) k && bitAt (getD part i 0) k) ≡ false)
@@ -21,18 +19,6 @@ abbrev μ-loop : tie.MeasureT-loop
 loop-holds : tie.Need-loop-holds Inv-loop μ-loop
 loop-holds c = (omega arith, λ e i l. absurd (omega arith))
 
-shared-slice-read-all : tie.Need-shared-slice-read-all Inv-loop μ-loop
-shared-slice-read-all c = search needs
-
-shared-slice-read-all-2 : tie.Need-shared-slice-read-all-2 Inv-loop μ-loop
-shared-slice-read-all-2 c = search needs
-
-add-j : tie.Need-add-j Inv-loop μ-loop
-add-j c = search needs
-
-loop-less : tie.Need-loop-less Inv-loop μ-loop
-loop-less c = search needs
-
 loop-again : tie.Need-loop-again Inv-loop μ-loop
 loop-again c = (omega arith, gather-more (λ i. (k : ℕ) → k < 8 → (bitAt (getD (c .before .before .before .before .args .sup .now) i 0) k && bitAt (getD (c .before .before .before .before .args .part .now) i 0) k) ≡ false) (c .before .before .before .loop .j) (c .before .before .before .loop .all) _ (c .before .before .before .loop .inv .1) (apart-byte (getD (c .before .before .before .before .args .sup .now) (c .before .before .before .loop .j) 0) (getD (c .before .before .before .before .args .part .now) (c .before .before .before .loop .j) 0) _ refl))
 
@@ -42,13 +28,4 @@ returns c = λ e i l. c .before .loop .inv .1 (eqb-true _ 0 e) i (omega arith)
 pub apart-spec : {M : Type 1} → statement M
 apart-spec =
     tie.close
-    (tie.spec
-    Inv-loop
-    μ-loop
-    loop-holds
-    shared-slice-read-all
-    shared-slice-read-all-2
-    add-j
-    loop-less
-    loop-again
-    returns)
+    (tie.spec Inv-loop μ-loop loop-holds (λ c. search needs) (λ c. search needs) (λ c. search needs) (λ c. search needs) loop-again returns)

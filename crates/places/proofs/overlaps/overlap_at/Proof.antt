@@ -11,19 +11,12 @@ use Rattle.rules.specs.Images.{pixel}
 use Rattle.rules.specs.Judging.{overlap}
 use Rattle.places.proofs.overlaps.overlap_at.Statement.{statement}
 use Rattle.places.proofs.overlaps.overlap_at.Tie as tie
-use Rattle.places.proofs.overlaps.overlap_at.Reads as reads
-use Rattle.places.proofs.overlaps.overlap_at.Lts as lts
-use Rattle.places.proofs.overlaps.overlap_plane.Reads as overlap-plane-reads
-use Rattle.limits.proofs.row_bytes.Reads as row-bytes-reads
 
 abbrev Inv-loop : tie.InvT-loop
 Inv-loop part sup w h n bytes area at₀ x₀ i₀ at x i = (i ≤ n) × (at ≡ i * bytes) × (x ≡ i * area) × ((y : ℕ) → y < x → y < n * (h * w) → flat w h (overlap (pixel w h part) (pixel w h sup)) y ≡ false)
 
 abbrev μ-loop : tie.MeasureT-loop
 μ-loop part sup w h n bytes area at₀ x₀ i₀ at x i = n - i
-
-row-bytes-requires : tie.Need-row-bytes-requires Inv-loop μ-loop
-row-bytes-requires c κs = search needs
 
 mul-bytes : tie.Need-mul-bytes Inv-loop μ-loop
 mul-bytes c = omega (arith, bytes-fit _ _ _ (c .before .before .before .pre .0 .0) (c .row-bytes .ensures .1))
@@ -37,20 +30,8 @@ loop-holds c = (omega arith, omega arith, omega arith, λ y a b. absurd (omega a
 add-end : tie.Need-add-end Inv-loop μ-loop
 add-end c = omega (arith, plane-in (c .before .before .before .before .before .args .w) (c .before .before .before .before .before .args .h) (c .before .before .before .before .before .args .n) (c .before .loop .i) (c .before .loop .at) (c .before .before .before .before .before .args .h * c .before .before .row-bytes .result) _ (c .before .loop .inv .1) (rw (c .before .before .row-bytes .ensures .0)) (c .loop-test .taken) (c .before .before .before .before .before .pre .1 .0))
 
-sub-overlap-plane : tie.Need-sub-overlap-plane Inv-loop μ-loop
-sub-overlap-plane c = search needs
-
-part-overlap-plane-start : tie.Need-part-overlap-plane-start Inv-loop μ-loop
-part-overlap-plane-start c = search needs
-
 part-overlap-plane-end : tie.Need-part-overlap-plane-end Inv-loop μ-loop
 part-overlap-plane-end c = omega (arith, plane-in (c .before .before .before .before .before .args .w) (c .before .before .before .before .before .args .h) (c .before .before .before .before .before .args .n) (c .before .loop .i) (c .before .loop .at) (c .before .before .before .before .before .args .h * c .before .before .row-bytes .result) _ (c .before .loop .inv .1) (rw (c .before .before .row-bytes .ensures .0)) (c .loop-test .taken) (c .before .before .before .before .before .pre .1 .0))
-
-sub-overlap-plane-2 : tie.Need-sub-overlap-plane-2 Inv-loop μ-loop
-sub-overlap-plane-2 c = search needs
-
-part-overlap-plane-start-2 : tie.Need-part-overlap-plane-start-2 Inv-loop μ-loop
-part-overlap-plane-start-2 c = search needs
 
 part-overlap-plane-end-2 : tie.Need-part-overlap-plane-end-2 Inv-loop μ-loop
 part-overlap-plane-end-2 c = omega (arith, plane-in (c .before .before .before .before .before .before .args .w) (c .before .before .before .before .before .before .args .h) (c .before .before .before .before .before .before .args .n) (c .before .before .loop .i) (c .before .before .loop .at) (c .before .before .before .before .before .before .args .h * c .before .before .before .row-bytes .result) _ (c .before .before .loop .inv .1) (rw (c .before .before .before .row-bytes .ensures .0)) (c .before .loop-test .taken) (c .before .before .before .before .before .before .pre .1 .1))
@@ -67,12 +48,6 @@ returns c = stretch-hit (c .before .before .before .before .before .before .befo
 add-x : tie.Need-add-x Inv-loop μ-loop
 add-x c = omega (arith, stretch-in (c .before .before .before .before .before .loop .i) (c .before .before .before .before .before .before .before .before .before .args .n) (c .before .before .before .before .before .before .before .before .before .args .h * c .before .before .before .before .before .before .before .before .before .args .w) (c .before .before .before .before .before .loop .x) (c .before .before .before .before .before .loop .inv .2) (c .before .before .before .before .loop-test .taken), stack-fit _ _ _ (c .before .before .before .before .before .before .before .before .before .pre .0 .1) (area-fit _ _ (c .before .before .before .before .before .before .before .before .before .pre .0 .0)))
 
-add-i : tie.Need-add-i Inv-loop μ-loop
-add-i c = search needs
-
-loop-less : tie.Need-loop-less Inv-loop μ-loop
-loop-less c = search needs
-
 loop-again : tie.Need-loop-again Inv-loop μ-loop
 loop-again c = (omega arith, stretch-next _ _ _ (c .before .before .before .before .before .loop .inv .1), stretch-next _ _ _ (c .before .before .before .before .before .loop .inv .2), stretch-more (c .before .before .before .before .before .before .before .before .before .args .n * (c .before .before .before .before .before .before .before .before .before .args .h * c .before .before .before .before .before .before .before .before .before .args .w)) _ _ (c .before .before .before .before .before .loop .x) (c .before .before .before .before .before .before .before .before .before .args .h * c .before .before .before .before .before .before .before .before .before .args .w) (c .before .overlap-plane .result) (c .before .before .before .before .before .loop .inv .3) (overlap-plane (c .before .before .before .before .before .before .before .before .before .args .w) (c .before .before .before .before .before .before .before .before .before .args .h) (c .before .before .before .before .before .loop .i) (c .before .before .before .before .before .before .before .before .before .args .h * c .before .before .before .before .before .before .row-bytes .result) (c .before .before .before .before .before .before .before .before .before .args .h * c .before .before .before .before .before .before .before .before .before .args .w) (c .before .before .before .before .before .loop .at) (c .before .before .before .before .before .loop .x) _ _ _ (rw (c .before .before .before .before .before .before .row-bytes .ensures .0)) refl (c .before .before .before .before .before .loop .inv .1) (c .before .before .before .before .before .loop .inv .2) refl refl refl (c .before .before .before .before .before .before .before .before .before .args .part .now) (c .before .before .before .before .before .before .before .before .before .args .sup .now)) (c .before .overlap-plane .ensures) (c .before .before .before .before .before .loop .x + c .before .before .before .before .before .before .before .before .before .args .h * c .before .before .before .before .before .before .before .before .before .args .w) (c .if1 .left) (λ y a b. a))
 
@@ -82,25 +57,6 @@ returns-2 c = least-end (c .before .before .before .before .before .args .n * (c
 pub overlap-at-spec : {M : Type 1} → statement M
 overlap-at-spec =
     tie.close
-    (tie.spec
-    Inv-loop
-    μ-loop
-    row-bytes-requires
-    mul-bytes
-    mul-area
-    loop-holds
-    add-end
-    sub-overlap-plane
-    part-overlap-plane-start
-    part-overlap-plane-end
-    sub-overlap-plane-2
-    part-overlap-plane-start-2
-    part-overlap-plane-end-2
-    overlap-plane-requires
-    add-result
-    returns
-    add-x
-    add-i
-    loop-less
-    loop-again
-    returns-2)
+    (tie.spec Inv-loop μ-loop (λ c κs. search needs) mul-bytes mul-area loop-holds add-end (λ c. search needs) (λ c. search needs)
+    part-overlap-plane-end (λ c. search needs) (λ c. search needs) part-overlap-plane-end-2 overlap-plane-requires add-result returns add-x
+    (λ c. search needs) (λ c. search needs) loop-again returns-2)

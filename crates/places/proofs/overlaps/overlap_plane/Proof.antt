@@ -9,21 +9,13 @@ use Rattle.places.specs.Rows.{apart-none, area-fit, bytes-fit, bytes-in,
 use Rattle.places.specs.Search.{overlapHere}
 use Rattle.places.proofs.overlaps.overlap_plane.Statement.{statement}
 use Rattle.places.proofs.overlaps.overlap_plane.Tie as tie
-use Rattle.places.proofs.overlaps.overlap_plane.Reads as reads
-use Rattle.places.proofs.overlaps.overlap_plane.Lts as lts
-use Rattle.places.proofs.overlaps.apart.Reads as apart-reads
-use Rattle.places.proofs.overlaps.overlap_row.Reads as overlap-row-reads
 use Rattle.image.specs.Rows.{packed}
-use Rattle.limits.proofs.row_bytes.Reads as row-bytes-reads
 
 abbrev Inv-loop : tie.InvT-loop
 Inv-loop part sup w h rb at₀ x₀ row₀ at x row = (row ≤ h) × (at ≡ row * rb) × (x ≡ row * w) × ((y : ℕ) → y < x → y < h * w → overlapHere (packed w part) (packed w sup) y ≡ false)
 
 abbrev μ-loop : tie.MeasureT-loop
 μ-loop part sup w h rb at₀ x₀ row₀ at x row = h - row
-
-row-bytes-requires : tie.Need-row-bytes-requires Inv-loop μ-loop
-row-bytes-requires c κs = search needs
 
 mul-apart : tie.Need-mul-apart Inv-loop μ-loop
 mul-apart c = omega (arith, bytes-fit _ _ _ (c .before .before .before .pre .0) (c .row-bytes .ensures .1))
@@ -55,12 +47,6 @@ add-at c = omega (arith, stretch-in (c .before .before .before .loop .row) (c .b
 add-x : tie.Need-add-x Inv-loop μ-loop
 add-x c = omega (arith, stretch-in (c .before .before .before .loop .row) (c .before .before .before .before .before .before .before .before .before .args .h) (c .before .before .before .before .before .before .before .before .before .args .w) (c .before .before .before .loop .x) (c .before .before .before .loop .inv .2) (c .before .before .loop-test .taken), area-fit _ _ (c .before .before .before .before .before .before .before .before .before .pre .0))
 
-add-row : tie.Need-add-row Inv-loop μ-loop
-add-row c = search needs
-
-loop-less : tie.Need-loop-less Inv-loop μ-loop
-loop-less c = search needs
-
 loop-again : tie.Need-loop-again Inv-loop μ-loop
 loop-again c = (omega arith, stretch-next _ _ _ (c .before .before .before .loop .inv .1), stretch-next _ _ _ (c .before .before .before .loop .inv .2), stretch-more (c .before .before .before .before .before .before .before .before .before .args .h * c .before .before .before .before .before .before .before .before .before .args .w) _ _ (c .before .before .before .loop .x) (c .before .before .before .before .before .before .before .before .before .args .w) (c .before .overlap-row .result) (c .before .before .before .loop .inv .3) (overlap-row (c .before .before .before .before .before .before .before .before .before .args .w) (c .before .before .before .before .before .before .before .before .before .args .part .now) (c .before .before .before .before .before .before .before .before .before .args .sup .now) (c .before .before .before .loop .row) (c .before .before .before .loop .at) (c .before .before .before .before .before .before .row-bytes .result) (c .before .before .before .loop .x) (c .before .before .before .loop .inv .1) (c .before .before .before .before .before .before .row-bytes .ensures .0) (c .before .before .before .loop .inv .2)) (c .before .overlap-row .ensures) (c .before .before .before .loop .x + c .before .before .before .before .before .before .before .before .before .args .w) (c .if2 .left) (λ y a b. a))
 
@@ -70,21 +56,5 @@ returns-3 c = least-end (c .before .before .before .before .before .before .befo
 pub overlap-plane-spec : {M : Type 1} → statement M
 overlap-plane-spec =
     tie.close
-    (tie.spec
-    Inv-loop
-    μ-loop
-    row-bytes-requires
-    mul-apart
-    apart-requires
-    mul-result
-    returns
-    loop-holds
-    overlap-row-requires
-    add-result
-    returns-2
-    add-at
-    add-x
-    add-row
-    loop-less
-    loop-again
-    returns-3)
+    (tie.spec Inv-loop μ-loop (λ c κs. search needs) mul-apart apart-requires mul-result returns loop-holds overlap-row-requires add-result
+    returns-2 add-at add-x (λ c. search needs) (λ c. search needs) loop-again returns-3)

@@ -9,10 +9,6 @@ use Rattle.places.specs.Search.{overlapIn}
 use Rattle.rules.specs.Images.{rowBytes}
 use Rattle.places.proofs.overlaps.overlap_row.Statement.{statement}
 use Rattle.places.proofs.overlaps.overlap_row.Tie as tie
-use Rattle.places.proofs.overlaps.overlap_row.Reads as reads
-use Rattle.places.proofs.overlaps.overlap_row.Lts as lts
-use Rattle.places.proofs.bits.bit_from.Reads as bit-from-reads
-use Rattle.places.proofs.bits.smaller.Reads as smaller-reads
 
 abbrev Inv-loop : tie.InvT-loop
 Inv-loop part sup at w c₀ b₀ c b = (c % 8 ≡ 0) × (b ≡ at + c / 8) × ((y : ℕ) → y < c → y < w → overlapIn part sup at y ≡ false)
@@ -23,12 +19,6 @@ abbrev μ-loop : tie.MeasureT-loop
 loop-holds : tie.Need-loop-holds Inv-loop μ-loop
 loop-holds c = (search needs, search needs, λ y l a. absurd (omega arith))
 
-sub-smaller : tie.Need-sub-smaller Inv-loop μ-loop
-sub-smaller c = search needs
-
-smaller-requires : tie.Need-smaller-requires Inv-loop μ-loop
-smaller-requires c κs = search needs
-
 shared-slice-read-bit-from : tie.Need-shared-slice-read-bit-from Inv-loop μ-loop
 unfolding rowBytes
 shared-slice-read-bit-from c = omega arith
@@ -37,24 +27,12 @@ shared-slice-read-bit-from-2 : tie.Need-shared-slice-read-bit-from-2 Inv-loop μ
 unfolding rowBytes
 shared-slice-read-bit-from-2 c = omega arith
 
-bit-from-requires : tie.Need-bit-from-requires Inv-loop μ-loop
-bit-from-requires c κs = search needs
-
-add-result : tie.Need-add-result Inv-loop μ-loop
-add-result c = search needs
-
 returns : tie.Need-returns Inv-loop μ-loop
 returns c = stretch-hit (c .before .before .before .before .before .before .before .before .before .args .w) (overlapIn (c .before .before .before .before .before .before .before .before .before .args .part .now) (c .before .before .before .before .before .before .before .before .before .args .sup .now) (c .before .before .before .before .before .before .before .before .before .args .at)) _ (c .before .before .before .before .before .before .loop .c) (c .before .before .before .before .smaller .result) (c .before .bit-from .result) (c .before .before .before .before .before .before .loop .inv .2) (λ j l. overlap-byte (c .before .before .before .before .before .before .before .before .before .args .part .now) (c .before .before .before .before .before .before .before .before .before .args .sup .now) (c .before .before .before .before .before .before .before .before .before .args .at) (c .before .before .before .before .before .before .loop .c) (c .before .before .before .before .before .before .loop .b) j (c .before .before .before .before .before .before .loop .inv .0) (c .before .before .before .before .before .before .loop .inv .1) (omega arith)) (c .before .bit-from .ensures) (omega arith) (c .if1 .taken)
-
-add-c : tie.Need-add-c Inv-loop μ-loop
-add-c c = search needs
 
 add-b : tie.Need-add-b Inv-loop μ-loop
 unfolding rowBytes
 add-b c = omega arith
-
-loop-less : tie.Need-loop-less Inv-loop μ-loop
-loop-less c = search needs
 
 loop-again : tie.Need-loop-again Inv-loop μ-loop
 loop-again c = (omega arith, omega arith, stretch-more (c .before .before .before .before .before .before .before .before .before .args .w) (overlapIn (c .before .before .before .before .before .before .before .before .before .args .part .now) (c .before .before .before .before .before .before .before .before .before .args .sup .now) (c .before .before .before .before .before .before .before .before .before .args .at)) _ (c .before .before .before .before .before .before .loop .c) (c .before .before .before .before .smaller .result) (c .before .bit-from .result) (c .before .before .before .before .before .before .loop .inv .2) (λ j l. overlap-byte (c .before .before .before .before .before .before .before .before .before .args .part .now) (c .before .before .before .before .before .before .before .before .before .args .sup .now) (c .before .before .before .before .before .before .before .before .before .args .at) (c .before .before .before .before .before .before .loop .c) (c .before .before .before .before .before .before .loop .b) j (c .before .before .before .before .before .before .loop .inv .0) (c .before .before .before .before .before .before .loop .inv .1) (omega arith)) (c .before .bit-from .ensures) (c .before .before .before .before .before .before .loop .c + 8) (c .if1 .left) (λ y a b. omega arith))
@@ -65,19 +43,5 @@ returns-2 c = least-none 0 (c .before .before .before .before .args .w) _ (omega
 pub overlap-row-spec : {M : Type 1} → statement M
 overlap-row-spec =
     tie.close
-    (tie.spec
-    Inv-loop
-    μ-loop
-    loop-holds
-    sub-smaller
-    smaller-requires
-    shared-slice-read-bit-from
-    shared-slice-read-bit-from-2
-    bit-from-requires
-    add-result
-    returns
-    add-c
-    add-b
-    loop-less
-    loop-again
-    returns-2)
+    (tie.spec Inv-loop μ-loop loop-holds (λ c. search needs) (λ c κs. search needs) shared-slice-read-bit-from shared-slice-read-bit-from-2
+    (λ c κs. search needs) (λ c. search needs) returns (λ c. search needs) add-b (λ c. search needs) loop-again returns-2)

@@ -4,16 +4,6 @@ use native.Mathlib.Omega.{arith}
 use borrow.Author.Needs.{needs}
 use Rattle.quick.proofs.bits.alone.Statement.{statement}
 use Rattle.quick.proofs.bits.alone.Tie as tie
-use Rattle.quick.proofs.bits.alone.Reads as reads
-use Rattle.quick.proofs.bits.alone.Lts as lts
-
--- src/bits.rt:30:37
-sub-result : tie.Need-sub-result
-sub-result c = search needs
-
--- src/bits.rt:30:28
-shl-result : tie.Need-shl-result
-shl-result c = search needs
 
 -- src/bits.rt:26:1
 returns : tie.Need-returns
@@ -24,4 +14,4 @@ returns-2 : tie.Need-returns-2
 returns-2 c = λ j l e. (alone-bit (c .before .args .k) j (c .before .pre) l e, omega arith)
 
 pub alone-spec : {M : Type 1} → statement M
-alone-spec = tie.close (tie.spec sub-result shl-result returns returns-2)
+alone-spec = tie.close (tie.spec (λ c. search needs) (λ c. search needs) returns returns-2)

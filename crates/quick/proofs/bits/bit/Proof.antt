@@ -4,16 +4,6 @@ use native.Mathlib.Omega.{arith}
 use borrow.Author.Needs.{needs}
 use Rattle.quick.proofs.bits.bit.Statement.{statement}
 use Rattle.quick.proofs.bits.bit.Tie as tie
-use Rattle.quick.proofs.bits.bit.Reads as reads
-use Rattle.quick.proofs.bits.bit.Lts as lts
-
--- src/bits.rt:14:12
-sub-result : tie.Need-sub-result
-sub-result c = search needs
-
--- src/bits.rt:14:6
-shr-result : tie.Need-shr-result
-shr-result c = search needs
 
 -- src/bits.rt:10:1
 returns : tie.Need-returns
@@ -21,4 +11,4 @@ unfolding bitOfWord place
 returns c = rw (and-mask _ 1)
 
 pub bit-spec : {M : Type 1} → statement M
-bit-spec = tie.close (tie.spec sub-result shr-result returns)
+bit-spec = tie.close (tie.spec (λ c. search needs) (λ c. search needs) returns)

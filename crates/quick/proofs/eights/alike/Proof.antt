@@ -10,9 +10,6 @@ use native.Mathlib.Omega.{arith}
 use borrow.Author.Needs.{needs}
 use Rattle.quick.proofs.eights.alike.Statement.{statement}
 use Rattle.quick.proofs.eights.alike.Tie as tie
-use Rattle.quick.proofs.eights.alike.Reads as reads
-use Rattle.quick.proofs.eights.alike.Lts as lts
-use Rattle.quick.proofs.eights.wide.Reads as wide-reads
 
 abbrev Inv-loop : tie.InvT-loop
 Inv-loop rings ones x m at all₀ k₀ all k = (k ≤ 8) × (all ≡ 0 → (j : ℕ) → j < k → getD rings (x + j) 0 ≡ bit (bitAt m j))
@@ -20,23 +17,11 @@ Inv-loop rings ones x m at all₀ k₀ all k = (k ≤ 8) × (all ≡ 0 → (j : 
 abbrev μ-loop : tie.MeasureT-loop
 μ-loop rings ones x m at all₀ k₀ all k = 8 - k
 
-wide-requires : tie.Need-wide-requires Inv-loop μ-loop
-wide-requires c κs = search needs
-
 mul-at : tie.Need-mul-at Inv-loop μ-loop
 mul-at c = omega (arith, c .wide .ensures)
 
 loop-holds : tie.Need-loop-holds Inv-loop μ-loop
 loop-holds c = (omega arith, λ e j l. absurd (omega arith))
-
-add-all : tie.Need-add-all Inv-loop μ-loop
-add-all c = search needs
-
-mul-all : tie.Need-mul-all Inv-loop μ-loop
-mul-all c = search needs
-
-shared-slice-read-all : tie.Need-shared-slice-read-all Inv-loop μ-loop
-shared-slice-read-all c = search needs
 
 add-all-2 : tie.Need-add-all-2 Inv-loop μ-loop
 add-all-2 c = omega (arith, c .before .before .before .wide .ensures)
@@ -47,12 +32,6 @@ mul-all-2 c = omega (arith, c .before .before .before .wide .ensures)
 shared-slice-read-all-2 : tie.Need-shared-slice-read-all-2 Inv-loop μ-loop
 shared-slice-read-all-2 c = omega (arith, c .before .before .before .before .wide .ensures, c .before .before .before .before .before .before .before .pre .1 .long)
 
-add-k : tie.Need-add-k Inv-loop μ-loop
-add-k c = search needs
-
-loop-less : tie.Need-loop-less Inv-loop μ-loop
-loop-less c = search needs
-
 loop-again : tie.Need-loop-again Inv-loop μ-loop
 loop-again c = (omega arith, gather-more (λ j. getD (c .before .before .before .before .before .before .before .args .rings .now) (c .before .before .before .before .before .before .before .args .x + j) 0 ≡ bit (bitAt (c .before .before .before .before .before .before .before .args .m) j)) (c .before .before .before .loop .k) (c .before .before .before .loop .all) _ (c .before .before .before .loop .inv .1) (λ e. xor-same _ _ e ∙ ones-at (c .before .before .before .before .before .before .before .args .ones .now) (c .before .before .before .before .before .before .before .pre .1) (c .before .before .before .before .before .before .before .args .m) (c .before .before .before .before .wide .result * 8) (c .before .before .before .loop .k) (omega (arith, c .before .before .before .before .wide .ensures)) (ap (λ (n : ℕ). n * 8) (c .before .before .before .before .wide .ensures .0)) (c .before .before .loop-test .taken)))
 
@@ -62,19 +41,5 @@ returns c = λ e j l. c .before .loop .inv .1 (eqb-true _ 0 e) j (omega arith)
 pub alike-spec : {M : Type 1} → statement M
 alike-spec =
     tie.close
-    (tie.spec
-    Inv-loop
-    μ-loop
-    wide-requires
-    mul-at
-    loop-holds
-    add-all
-    mul-all
-    shared-slice-read-all
-    add-all-2
-    mul-all-2
-    shared-slice-read-all-2
-    add-k
-    loop-less
-    loop-again
-    returns)
+    (tie.spec Inv-loop μ-loop (λ c κs. search needs) mul-at loop-holds (λ c. search needs) (λ c. search needs) (λ c. search needs) add-all-2
+    mul-all-2 shared-slice-read-all-2 (λ c. search needs) (λ c. search needs) loop-again returns)

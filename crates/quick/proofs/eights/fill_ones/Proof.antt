@@ -8,9 +8,6 @@ use native.Mathlib.Omega.{arith}
 use borrow.Author.Needs.{needs}
 use Rattle.quick.proofs.eights.fill_ones.Statement.{statement}
 use Rattle.quick.proofs.eights.fill_ones.Tie as tie
-use Rattle.quick.proofs.eights.fill_ones.Reads as reads
-use Rattle.quick.proofs.eights.fill_ones.Lts as lts
-use Rattle.quick.proofs.eights.digit.Reads as digit-reads
 
 abbrev Inv-loop : tie.InvT-loop
 Inv-loop ones₀ i₀ ones i = (length ones ≡ 2048) × (i ≤ 2048) × ((k : ℕ) → k < i → getD ones k 0 ≡ bit (bitAt (k / 8) (k % 8)))
@@ -21,29 +18,8 @@ abbrev μ-loop : tie.MeasureT-loop
 loop-holds : tie.Need-loop-holds Inv-loop μ-loop
 loop-holds c = (c .before .pre, omega arith, λ k l. absurd (omega arith))
 
-cast-digit : tie.Need-cast-digit Inv-loop μ-loop
-cast-digit c = omega arith
-
-digit-requires : tie.Need-digit-requires Inv-loop μ-loop
-digit-requires c κs = omega arith
-
-mul-ones : tie.Need-mul-ones Inv-loop μ-loop
-mul-ones c = search needs
-
-slice-write-ones : tie.Need-slice-write-ones Inv-loop μ-loop
-slice-write-ones c = search needs
-
-add-i : tie.Need-add-i Inv-loop μ-loop
-add-i c = search needs
-
-loop-less : tie.Need-loop-less Inv-loop μ-loop
-loop-less c = search needs
-
 loop-again : tie.Need-loop-again Inv-loop μ-loop
 loop-again c = (simp length-set (omega arith), omega arith, stored-more (λ k v. v ≡ bit (bitAt (k / 8) (k % 8))) (c .before .before .loop .ones) (c .before .before .loop .i) _ (omega arith) (c .before .before .loop .inv .2) (c .digit .ensures))
-
-same-length : tie.Need-same-length Inv-loop μ-loop
-same-length c = search needs
 
 returns : tie.Need-returns Inv-loop μ-loop
 returns c = record { long = c .before .loop .inv .0; is = λ i l. c .before .loop .inv .2 i (omega arith) }
@@ -51,16 +27,5 @@ returns c = record { long = c .before .loop .inv .0; is = λ i l. c .before .loo
 pub fill-ones-spec : {M : Type 1} → statement M
 fill-ones-spec =
     tie.close
-    (tie.spec
-    Inv-loop
-    μ-loop
-    loop-holds
-    cast-digit
-    digit-requires
-    mul-ones
-    slice-write-ones
-    add-i
-    loop-less
-    loop-again
-    same-length
-    returns)
+    (tie.spec Inv-loop μ-loop loop-holds (λ c. omega arith) (λ c κs. omega arith) (λ c. search needs) (λ c. search needs)
+    (λ c. search needs) (λ c. search needs) loop-again (λ c. search needs) returns)

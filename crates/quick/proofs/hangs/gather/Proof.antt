@@ -7,9 +7,6 @@ use native.Mathlib.Omega.{arith}
 use borrow.Author.Needs.{needs}
 use Rattle.quick.proofs.hangs.gather.Statement.{statement}
 use Rattle.quick.proofs.hangs.gather.Tie as tie
-use Rattle.quick.proofs.hangs.gather.Reads as reads
-use Rattle.quick.proofs.hangs.gather.Lts as lts
-use Rattle.quick.proofs.hangs.hanging.Reads as hanging-reads
 
 abbrev Inv-loop : tie.InvT-loop
 Inv-loop low up below above x n all₀ j₀ all j = (j ≤ n) × (all ≡ 0 → (i : ℕ) → i < j → NoneHangs low up below above (x + i))
@@ -21,49 +18,21 @@ abbrev μ-loop : tie.MeasureT-loop
 loop-holds : tie.Need-loop-holds Inv-loop μ-loop
 loop-holds c = (omega arith, λ e i l. absurd (omega arith))
 
--- src/hangs.rt:23:32
-add-hanging : tie.Need-add-hanging Inv-loop μ-loop
-add-hanging c = search needs
-
 -- src/hangs.rt:23:29
 shared-slice-read-hanging : tie.Need-shared-slice-read-hanging Inv-loop μ-loop
 shared-slice-read-hanging c = omega (arith, c .before .before .before .before .before .before .before .pre .up-long)
-
--- src/hangs.rt:23:46
-add-hanging-2 : tie.Need-add-hanging-2 Inv-loop μ-loop
-add-hanging-2 c = search needs
 
 -- src/hangs.rt:23:40
 shared-slice-read-hanging-2 : tie.Need-shared-slice-read-hanging-2 Inv-loop μ-loop
 shared-slice-read-hanging-2 c = omega (arith, c .before .before .before .before .before .before .before .before .pre .above-long)
 
--- src/hangs.rt:23:58
-add-hanging-3 : tie.Need-add-hanging-3 Inv-loop μ-loop
-add-hanging-3 c = search needs
-
 -- src/hangs.rt:23:54
 shared-slice-read-hanging-3 : tie.Need-shared-slice-read-hanging-3 Inv-loop μ-loop
 shared-slice-read-hanging-3 c = omega (arith, c .before .before .before .before .before .before .before .before .before .pre .low-long)
 
--- src/hangs.rt:23:72
-add-hanging-4 : tie.Need-add-hanging-4 Inv-loop μ-loop
-add-hanging-4 c = search needs
-
 -- src/hangs.rt:23:66
 shared-slice-read-hanging-4 : tie.Need-shared-slice-read-hanging-4 Inv-loop μ-loop
 shared-slice-read-hanging-4 c = omega (arith, c .before .before .before .before .before .before .before .before .before .before .pre .below-long)
-
--- src/hangs.rt:23:21
-hanging-requires : tie.Need-hanging-requires Inv-loop μ-loop
-hanging-requires c κs = search needs
-
--- src/hangs.rt:24:9
-add-j : tie.Need-add-j Inv-loop μ-loop
-add-j c = search needs
-
--- src/hangs.rt:22:5
-loop-less : tie.Need-loop-less Inv-loop μ-loop
-loop-less c = search needs
 
 -- src/hangs.rt:22:5
 loop-again : tie.Need-loop-again Inv-loop μ-loop
@@ -76,20 +45,6 @@ returns c = λ e i l. c .before .loop .inv .1 e i (omega arith)
 pub gather-spec : {M : Type 1} → statement M
 gather-spec =
     tie.close
-    (tie.spec
-    Inv-loop
-    μ-loop
-    loop-holds
-    add-hanging
-    shared-slice-read-hanging
-    add-hanging-2
-    shared-slice-read-hanging-2
-    add-hanging-3
-    shared-slice-read-hanging-3
-    add-hanging-4
-    shared-slice-read-hanging-4
-    hanging-requires
-    add-j
-    loop-less
-    loop-again
-    returns)
+    (tie.spec Inv-loop μ-loop loop-holds (λ c. search needs) shared-slice-read-hanging (λ c. search needs) shared-slice-read-hanging-2
+    (λ c. search needs) shared-slice-read-hanging-3 (λ c. search needs) shared-slice-read-hanging-4 (λ c κs. search needs)
+    (λ c. search needs) (λ c. search needs) loop-again returns)

@@ -3,8 +3,6 @@ use native.Mathlib.Omega.{arith}
 use borrow.Author.Needs.{needs}
 use Rattle.quick.proofs.hangs.hanging.Statement.{statement}
 use Rattle.quick.proofs.hangs.hanging.Tie as tie
-use Rattle.quick.proofs.hangs.hanging.Reads as reads
-use Rattle.quick.proofs.hangs.hanging.Lts as lts
 
 -- src/pair.rt:16:1
 returns : tie.Need-returns

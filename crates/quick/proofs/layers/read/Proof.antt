@@ -9,21 +9,12 @@ use native.Mathlib.Omega.{arith}
 use borrow.Author.Needs.{needs}
 use Rattle.quick.proofs.layers.read.Statement.{statement}
 use Rattle.quick.proofs.layers.read.Tie as tie
-use Rattle.quick.proofs.layers.read.Reads as reads
-use Rattle.quick.proofs.layers.read.Lts as lts
-use Rattle.limits.proofs.row_bytes.Reads as row-bytes-reads
-use Rattle.planes.proofs.rows.put.Reads as put-reads
-use Rattle.words.proofs.rows.read.Reads as read-reads
 
 abbrev Inv-loop : tie.InvT-loop
 Inv-loop s out₀ w h rb r₀ out r = (r ≤ h) × (length out ≡ 1610) × Framed w h out × Reading w r s out
 
 abbrev μ-loop : tie.MeasureT-loop
 μ-loop s out₀ w h rb r₀ out r = h - r
-
--- src/layers.rt:12:9
-row-bytes-requires : tie.Need-row-bytes-requires Inv-loop μ-loop
-row-bytes-requires c κs = search needs
 
 -- src/layers.rt:14:5
 loop-holds : tie.Need-loop-holds Inv-loop μ-loop
@@ -50,16 +41,8 @@ add-r : tie.Need-add-r Inv-loop μ-loop
 add-r c = omega (arith, c .before .before .before .before .before .before .before .before .before .before .pre .0 .h-high)
 
 -- src/layers.rt:14:5
-loop-less : tie.Need-loop-less Inv-loop μ-loop
-loop-less c = search needs
-
--- src/layers.rt:14:5
 loop-again : tie.Need-loop-again Inv-loop μ-loop
 loop-again c = (omega arith, omega (arith, c .before .before .put .kept .0), framed-more (c .before .before .before .before .before .before .before .before .before .before .args .w) (c .before .before .before .before .before .before .before .before .before .before .args .h) (c .before .before .before .before .before .before .before .row-bytes .result) (c .before .before .before .before .before .before .loop .r) (c .before .before .before .before .before .before .before .before .before .before .args .s .now) (c .before .before .before .before .before .before .loop .out) _ _ (c .before .before .before .before .before .before .before .before .before .before .pre .0) (c .before .before .before .before .before .before .before .before .before .before .pre .1 .0) (omega arith) (c .before .before .before .before .before .before .before .row-bytes .ensures .0) (c .before .before .before .read .ensures) (c .before .before .put .ensures) (c .before .before .before .before .before .before .loop .inv .2), reading-more (c .before .before .before .before .before .before .before .before .before .before .args .w) (c .before .before .before .before .before .before .before .before .before .before .args .h) (c .before .before .before .before .before .before .before .row-bytes .result) (c .before .before .before .before .before .before .loop .r) (c .before .before .before .before .before .before .before .before .before .before .args .s .now) (c .before .before .before .before .before .before .loop .out) _ _ (c .before .before .before .before .before .before .before .before .before .before .pre .0) (c .before .before .before .before .before .before .before .before .before .before .pre .1 .0) (omega arith) (c .before .before .before .before .before .before .before .row-bytes .ensures .0) (c .before .before .before .read .ensures) (c .before .before .put .ensures) (c .before .before .before .before .before .before .loop .inv .3))
-
--- src/layers.rt:8:1
-same-length : tie.Need-same-length Inv-loop μ-loop
-same-length c = search needs
 
 -- src/layers.rt:8:1
 returns : tie.Need-returns Inv-loop μ-loop
@@ -68,17 +51,5 @@ returns c = read-all (c .before .before .before .before .before .args .w) (c .be
 pub read-spec : {M : Type 1} → statement M
 read-spec =
     tie.close
-    (tie.spec
-    Inv-loop
-    μ-loop
-    row-bytes-requires
-    loop-holds
-    add-put
-    mul-read
-    read-requires
-    put-requires
-    add-r
-    loop-less
-    loop-again
-    same-length
-    returns)
+    (tie.spec Inv-loop μ-loop (λ c κs. search needs) loop-holds add-put mul-read read-requires put-requires add-r (λ c. search needs)
+    loop-again (λ c. search needs) returns)

@@ -5,8 +5,6 @@ use native.Mathlib.Omega.{arith}
 use borrow.Author.Needs.{needs}
 use Rattle.quick.proofs.marks.gather.Statement.{statement}
 use Rattle.quick.proofs.marks.gather.Tie as tie
-use Rattle.quick.proofs.marks.gather.Reads as reads
-use Rattle.quick.proofs.marks.gather.Lts as lts
 
 abbrev Inv-loop : tie.InvT-loop
 Inv-loop rings x n all₀ j₀ all j = (j ≤ n) × ((k : ℕ) → k < j → getD rings (x + k) 0 ≤ all)
@@ -17,21 +15,6 @@ abbrev μ-loop : tie.MeasureT-loop
 loop-holds : tie.Need-loop-holds Inv-loop μ-loop
 loop-holds c = (omega arith, λ k l. absurd (omega arith))
 
-add-all : tie.Need-add-all Inv-loop μ-loop
-add-all c = search needs
-
-mul-all : tie.Need-mul-all Inv-loop μ-loop
-mul-all c = search needs
-
-shared-slice-read-all : tie.Need-shared-slice-read-all Inv-loop μ-loop
-shared-slice-read-all c = search needs
-
-add-j : tie.Need-add-j Inv-loop μ-loop
-add-j c = search needs
-
-loop-less : tie.Need-loop-less Inv-loop μ-loop
-loop-less c = search needs
-
 loop-again : tie.Need-loop-again Inv-loop μ-loop
 loop-again c = (omega arith, gathered-more (λ k. getD (c .before .before .before .args .rings .now) (c .before .before .before .args .x + k) 0) (c .before .before .loop .j) (c .before .before .loop .all) (c .before .before .loop .inv .1))
 
@@ -41,14 +24,5 @@ returns c = λ k l. c .before .loop .inv .1 k (omega arith)
 pub gather-spec : {M : Type 1} → statement M
 gather-spec =
     tie.close
-    (tie.spec
-    Inv-loop
-    μ-loop
-    loop-holds
-    add-all
-    mul-all
-    shared-slice-read-all
-    add-j
-    loop-less
-    loop-again
-    returns)
+    (tie.spec Inv-loop μ-loop loop-holds (λ c. search needs) (λ c. search needs) (λ c. search needs) (λ c. search needs) (λ c. search needs)
+    loop-again returns)

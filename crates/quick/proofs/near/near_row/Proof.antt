@@ -11,11 +11,6 @@ use native.Mathlib.Omega.{arith}
 use borrow.Author.Needs.{needs}
 use Rattle.quick.proofs.near.near_row.Statement.{statement}
 use Rattle.quick.proofs.near.near_row.Tie as tie
-use Rattle.quick.proofs.near.near_row.Reads as reads
-use Rattle.quick.proofs.near.near_row.Lts as lts
-use Rattle.planes.proofs.rows.row.Reads as row-reads
-use Rattle.quick.proofs.near.further.Reads as further-reads
-use Rattle.words.proofs.rows.widen.Reads as widen-reads
 
 abbrev Inv-loop : tie.InvT-loop
 Inv-loop disc halves y q k x₀ d₀ x d = (d * d ≤ q .0) × (d ≤ 32) × NearTo (q .0) (y + 33) d (halfWidth (q .0) d) disc (column x)
@@ -23,33 +18,13 @@ Inv-loop disc halves y q k x₀ d₀ x d = (d * d ≤ q .0) × (d ≤ 32) × Nea
 abbrev μ-loop : tie.MeasureT-loop
 μ-loop disc halves y q k x₀ d₀ x d = 32 - d
 
--- src/near.rt:32:13
-add-k : tie.Need-add-k Inv-loop μ-loop
-add-k c = search needs
-
--- src/near.rt:33:9
-row-requires : tie.Need-row-requires Inv-loop μ-loop
-row-requires c κs = search needs
-
 -- src/near.rt:35:5
 loop-holds : tie.Need-loop-holds Inv-loop μ-loop
 loop-holds c = (omega arith, omega arith, near-own _ _ _ _ (c .row .ensures))
 
--- src/near.rt:35:12
-add-if1 : tie.Need-add-if1 Inv-loop μ-loop
-add-if1 c = search needs
-
--- src/near.rt:35:22
-add-if1-2 : tie.Need-add-if1-2 Inv-loop μ-loop
-add-if1-2 c = search needs
-
 -- src/near.rt:35:11
 mul-if1 : tie.Need-mul-if1 Inv-loop μ-loop
 mul-if1 c = omega (arith, fit-of (c .loop .d + 1) (c .loop .d + 1) 33 33 (omega arith) (omega arith))
-
--- src/near.rt:36:9
-add-d : tie.Need-add-d Inv-loop μ-loop
-add-d c = search needs
 
 -- src/near.rt:37:9
 further-requires : tie.Need-further-requires Inv-loop μ-loop
@@ -62,10 +37,6 @@ loop-less c = omega (arith, square-small (c .before .before .before .before .bef
 -- src/near.rt:35:5
 loop-again : tie.Need-loop-again Inv-loop μ-loop
 loop-again c = let e : c .before .before .before .loop .d + 1 - 1 ≡ c .before .before .before .loop .d = omega arith in (c .before .if1 .taken, omega (arith, square-small (c .before .before .before .before .before .before .before .args .q .0) (c .before .before .before .loop .d + 1) (c .before .before .before .before .before .before .before .pre .0 .2) (c .before .if1 .taken)), c .further .ensures (rw e (c .before .before .before .loop .inv .2)))
-
--- src/near.rt:39:34
-mul-t12 : tie.Need-mul-t12 Inv-loop μ-loop
-mul-t12 c = search needs
 
 -- src/near.rt:39:34
 shared-slice-read-t14 : tie.Need-shared-slice-read-t14 Inv-loop μ-loop
@@ -82,20 +53,5 @@ returns c = let e : c .before .before .before .before .loop .d ≡ root (c .befo
 pub near-row-spec : {M : Type 1} → statement M
 near-row-spec =
     tie.close
-    (tie.spec
-    Inv-loop
-    μ-loop
-    add-k
-    row-requires
-    loop-holds
-    add-if1
-    add-if1-2
-    mul-if1
-    add-d
-    further-requires
-    loop-less
-    loop-again
-    mul-t12
-    shared-slice-read-t14
-    widen-requires
-    returns)
+    (tie.spec Inv-loop μ-loop (λ c. search needs) (λ c κs. search needs) loop-holds (λ c. search needs) (λ c. search needs) mul-if1
+    (λ c. search needs) further-requires loop-less loop-again (λ c. search needs) shared-slice-read-t14 widen-requires returns)

@@ -17,17 +17,6 @@ use native.Mathlib.Omega.{arith}
 use borrow.Author.Needs.{needs}
 use Rattle.quick.proofs.pair.pair.Statement.{statement}
 use Rattle.quick.proofs.pair.pair.Tie as tie
-use Rattle.quick.proofs.pair.pair.Reads as reads
-use Rattle.quick.proofs.pair.pair.Lts as lts
-use Rattle.limits.proofs.row_bytes.Reads as row-bytes-reads
-use Rattle.quick.proofs.hangs.mark.Reads as hangs-mark-reads
-use Rattle.quick.proofs.layers.read.Reads as read-reads
-use Rattle.quick.proofs.marks.mark.Reads as marks-mark-reads
-use Rattle.quick.proofs.pair.rows.Reads as rows-reads
-
--- src/pair.rt:152:58
-slice-aggregate-mark : tie.Need-slice-aggregate-mark
-slice-aggregate-mark c = search needs
 
 -- src/pair.rt:152:73
 row-bytes-requires : tie.Need-row-bytes-requires
@@ -41,10 +30,6 @@ mul-mark c = omega (arith, bytes-fit (c .before .before .before .before .before 
 mark-requires : tie.Need-mark-requires
 mark-requires c κs = (rw (c .row-bytes .ensures .0) (c .before .before .before .before .before .before .before .before .before .pre .1 .0), (bytes-fit (c .before .before .before .before .before .before .before .before .before .args .w) (c .before .before .before .before .before .before .before .before .before .args .h) (c .row-bytes .result) (c .before .before .before .before .before .before .before .before .before .pre .0 .0 .0) (c .row-bytes .ensures .1), omega (arith, length-replicate {A = ℕ} 33 0)))
 
--- src/pair.rt:154:42
-slice-aggregate-mark-2 : tie.Need-slice-aggregate-mark-2
-slice-aggregate-mark-2 c = search needs
-
 -- src/pair.rt:154:54
 mul-mark-2 : tie.Need-mul-mark-2
 mul-mark-2 c = omega (arith, area-fit (c .before .before .before .before .before .before .before .before .before .before .before .before .args .w) (c .before .before .before .before .before .before .before .before .before .before .before .before .args .h) (c .before .before .before .before .before .before .before .before .before .before .before .before .pre .0 .0 .0))
@@ -57,18 +42,6 @@ mark-requires-2 c κs = (area-fit (c .before .before .before .before .before .be
 returns : tie.Need-returns
 returns c = ((λ e p l. no-rings (c .before .before .before .before .before .before .before .before .before .before .before .before .before .before .before .args .w) (c .before .before .before .before .before .before .before .before .before .before .before .before .before .before .before .args .h) (c .before .before .before .before .before .before .before .before .before .before .before .before .before .before .before .args .q .0) (packed (c .before .before .before .before .before .before .before .before .before .before .before .before .before .before .before .args .w) (c .before .before .before .before .before .before .before .before .before .before .before .before .before .before .before .args .low .now)) (packed (c .before .before .before .before .before .before .before .before .before .before .before .before .before .before .before .args .w) (c .before .before .before .before .before .before .before .before .before .before .before .before .before .before .before .args .up .now)) (λ o. getD (c .before .before .before .before .before .before .before .before .before .before .before .before .before .before .before .args .rings .now) o 0) p (omega (arith, c .before .before .mark2 .ensures p l .0, c .if1 .taken))), (λ e p l. none-unheld (c .before .before .before .before .before .before .before .before .before .before .before .before .before .before .before .args .w) (c .before .before .before .before .before .before .before .before .before .before .before .before .before .before .before .args .h) (c .before .before .before .before .before .before .before .before .before .before .before .before .before .before .before .args .h * c .before .before .before .before .before .before .row-bytes .result) (c .before .before .before .before .before .before .before .before .before .before .before .before .before .before .before .args .low .now) (c .before .before .before .before .before .before .before .before .before .before .before .before .before .before .before .args .up .now) (c .before .before .before .before .before .before .before .before .before .before .before .before .before .before .before .args .below .now) (c .before .before .before .before .before .before .before .before .before .before .before .before .before .before .before .args .above .now) (ap (λ (x : ℕ). c .before .before .before .before .before .before .before .before .before .before .before .before .before .before .before .args .h * x) (c .before .before .before .before .before .before .row-bytes .ensures .0)) (λ o. getD (c .before .before .before .before .before .before .before .before .before .before .before .before .before .before .before .args .rings .now) o 0) (c .before .before .before .before .before .mark .ensures .0 (eqb-true _ 0 e)) p l))
 
--- src/pair.rt:160:51
-slice-aggregate-rows : tie.Need-slice-aggregate-rows
-slice-aggregate-rows c = search needs
-
--- src/pair.rt:160:59
-slice-aggregate-rows-2 : tie.Need-slice-aggregate-rows-2
-slice-aggregate-rows-2 c = search needs
-
--- src/pair.rt:160:72
-slice-aggregate-rows-3 : tie.Need-slice-aggregate-rows-3
-slice-aggregate-rows-3 c = search needs
-
 -- src/pair.rt:160:9
 rows-requires : tie.Need-rows-requires
 rows-requires c κs = ((c .before .before .before .before .before .before .before .before .before .before .before .before .before .before .before .before .before .before .before .pre .0 .0 .0, (c .before .before .before .before .before .before .before .before .before .before .before .before .before .before .before .before .before .before .before .pre .0 .1 .0, (c .before .before .before .before .before .before .before .before .before .before .before .before .before .before .before .before .before .before .before .pre .1 .0, c .before .before .before .before .before .before .before .before .before .before .before .before .before .before .before .before .before .before .before .pre .0 .1 .1))), ((c .before .before .before .before .before .before .before .before .before .before .before .before .before .before .before .before .before .before .before .pre .1 .1, (zero-ready (c .before .before .before .before .before .before .before .before .before .before .before .before .before .before .before .before .before .before .before .args .w) (c .before .before .before .before .before .before .before .before .before .before .before .before .before .before .before .before .before .before .before .args .h), c .before .before .before .before .before .before .before .before .before .before .before .before .before .before .before .before .before .before .before .pre .0 .0 .1 .1)), ((omega (arith, c .before .before .before .before .before .before .mark2 .kept .1 .0, length-replicate {A = ℕ} 257 0), λ p l. c .before .before .before .before .before .before .mark2 .ensures p l .1), (omega (arith, c .before .before .before .before .before .before .before .before .before .mark .kept .1 .1 .1 .1 .0, length-replicate {A = ℕ} 33 0), λ j l z. c .before .before .before .before .before .before .before .before .before .mark .ensures .1 j (omega (arith, ap (λ (x : ℕ). c .before .before .before .before .before .before .before .before .before .before .before .before .before .before .before .before .before .before .before .args .h * x) (c .before .before .before .before .before .before .before .before .before .before .row-bytes .ensures .0))) z))))
@@ -77,25 +50,9 @@ rows-requires c κs = ((c .before .before .before .before .before .before .befor
 returns-2 : tie.Need-returns-2
 returns-2 c = ((λ e. sound-good (c .before .before .before .before .before .before .before .before .before .before .before .before .before .before .before .before .before .before .before .before .args .w) (c .before .before .before .before .before .before .before .before .before .before .before .before .before .before .before .before .before .before .before .before .args .h) (c .before .before .before .before .before .before .before .before .before .before .before .before .before .before .before .before .before .before .before .before .args .q .0) (c .before .before .before .before .before .before .before .before .before .before .before .before .before .before .before .before .before .before .before .before .args .t) (seen (c .before .before .before .before .before .before .before .before .before .before .before .before .before .before .before .before .before .before .before .before .args .w) _) (packed (c .before .before .before .before .before .before .before .before .before .before .before .before .before .before .before .before .before .before .before .before .args .w) (c .before .before .before .before .before .before .before .before .before .before .before .before .before .before .before .before .before .before .before .before .args .low .now)) (packed (c .before .before .before .before .before .before .before .before .before .before .before .before .before .before .before .before .before .before .before .before .args .w) (c .before .before .before .before .before .before .before .before .before .before .before .before .before .before .before .before .before .before .before .before .args .up .now)) (λ o. getD (c .before .before .before .before .before .before .before .before .before .before .before .before .before .before .before .before .before .before .before .before .args .rings .now) o 0) (all-rows (c .before .before .before .before .before .before .before .before .before .before .before .before .before .before .before .before .before .before .before .before .args .w) (c .before .before .before .before .before .before .before .before .before .before .before .before .before .before .before .before .before .before .before .before .args .h) (λ p. Sound (c .before .before .before .before .before .before .before .before .before .before .before .before .before .before .before .before .before .before .before .before .args .w) (c .before .before .before .before .before .before .before .before .before .before .before .before .before .before .before .before .before .before .before .before .args .h) (c .before .before .before .before .before .before .before .before .before .before .before .before .before .before .before .before .before .before .before .before .args .q .0) (c .before .before .before .before .before .before .before .before .before .before .before .before .before .before .before .before .before .before .before .before .args .t) (seen (c .before .before .before .before .before .before .before .before .before .before .before .before .before .before .before .before .before .before .before .before .args .w) _) (packed (c .before .before .before .before .before .before .before .before .before .before .before .before .before .before .before .before .before .before .before .before .args .w) (c .before .before .before .before .before .before .before .before .before .before .before .before .before .before .before .before .before .before .before .before .args .low .now)) (packed (c .before .before .before .before .before .before .before .before .before .before .before .before .before .before .before .before .before .before .before .before .args .w) (c .before .before .before .before .before .before .before .before .before .before .before .before .before .before .before .before .before .before .before .before .args .up .now)) (λ o. getD (c .before .before .before .before .before .before .before .before .before .before .before .before .before .before .before .before .before .before .before .before .args .rings .now) o 0) p) (λ y ly k lk. c .rows .ensures .0 e y ly k lk)) (c .before .before .before .before .before .before .before .before .before .before .before .before .before .before .before .before .before .before .before .before .pre .0 .0 .1 .0) (λ p l v n. absurd (omega (arith, c .before .before .before .before .before .before .before .mark2 .ensures p l .0, c .before .before .before .before .if2 .taken)))), (λ e. all-rows (c .before .before .before .before .before .before .before .before .before .before .before .before .before .before .before .before .before .before .before .before .args .w) (c .before .before .before .before .before .before .before .before .before .before .before .before .before .before .before .before .before .before .before .before .args .h) (λ p. unheldHere (packed (c .before .before .before .before .before .before .before .before .before .before .before .before .before .before .before .before .before .before .before .before .args .w) (c .before .before .before .before .before .before .before .before .before .before .before .before .before .before .before .before .before .before .before .before .args .low .now)) (packed (c .before .before .before .before .before .before .before .before .before .before .before .before .before .before .before .before .before .before .before .before .args .w) (c .before .before .before .before .before .before .before .before .before .before .before .before .before .before .before .before .before .before .before .before .args .up .now)) (packed (c .before .before .before .before .before .before .before .before .before .before .before .before .before .before .before .before .before .before .before .before .args .w) (c .before .before .before .before .before .before .before .before .before .before .before .before .before .before .before .before .before .before .before .before .args .below .now)) (packed (c .before .before .before .before .before .before .before .before .before .before .before .before .before .before .before .before .before .before .before .before .args .w) (c .before .before .before .before .before .before .before .before .before .before .before .before .before .before .before .before .before .before .before .before .args .above .now)) (λ o. getD (c .before .before .before .before .before .before .before .before .before .before .before .before .before .before .before .before .before .before .before .before .args .rings .now) o 0) p ≡ false) (λ y ly k lk. c .rows .ensures .1 e y ly k lk)))
 
--- src/pair.rt:162:30
-slice-aggregate-read : tie.Need-slice-aggregate-read
-slice-aggregate-read c = search needs
-
 -- src/pair.rt:162:5
 read-requires : tie.Need-read-requires
 read-requires c κs = (c .before .before .before .before .before .before .before .before .before .before .before .before .before .before .before .before .before .pre .0 .0 .0, (c .before .before .before .before .before .before .before .before .before .before .before .before .before .before .before .before .before .pre .0 .1 .0, zero-ready (c .before .before .before .before .before .before .before .before .before .before .before .before .before .before .before .before .before .args .w) (c .before .before .before .before .before .before .before .before .before .before .before .before .before .before .before .before .before .args .h)))
-
--- src/pair.rt:163:40
-slice-aggregate-rows-4 : tie.Need-slice-aggregate-rows-4
-slice-aggregate-rows-4 c = search needs
-
--- src/pair.rt:163:48
-slice-aggregate-rows-5 : tie.Need-slice-aggregate-rows-5
-slice-aggregate-rows-5 c = search needs
-
--- src/pair.rt:163:61
-slice-aggregate-rows-6 : tie.Need-slice-aggregate-rows-6
-slice-aggregate-rows-6 c = search needs
 
 -- src/pair.rt:163:5
 rows-requires-2 : tie.Need-rows-requires-2
@@ -108,24 +65,6 @@ returns-3 c = ((λ e. sound-good (c .before .before .before .before .before .bef
 pub pair-spec : {M : Type 1} → statement M
 pair-spec =
     tie.close
-    (tie.spec
-    slice-aggregate-mark
-    row-bytes-requires
-    mul-mark
-    mark-requires
-    slice-aggregate-mark-2
-    mul-mark-2
-    mark-requires-2
-    returns
-    slice-aggregate-rows
-    slice-aggregate-rows-2
-    slice-aggregate-rows-3
-    rows-requires
-    returns-2
-    slice-aggregate-read
-    read-requires
-    slice-aggregate-rows-4
-    slice-aggregate-rows-5
-    slice-aggregate-rows-6
-    rows-requires-2
-    returns-3)
+    (tie.spec (λ c. search needs) row-bytes-requires mul-mark mark-requires (λ c. search needs) mul-mark-2 mark-requires-2 returns
+    (λ c. search needs) (λ c. search needs) (λ c. search needs) rows-requires returns-2 (λ c. search needs) read-requires
+    (λ c. search needs) (λ c. search needs) (λ c. search needs) rows-requires-2 returns-3)

@@ -11,36 +11,6 @@ use native.Mathlib.Omega.{arith}
 use borrow.Author.Needs.{needs}
 use Rattle.quick.proofs.pair.ringed_row.Statement.{statement}
 use Rattle.quick.proofs.pair.ringed_row.Tie as tie
-use Rattle.quick.proofs.pair.ringed_row.Reads as reads
-use Rattle.quick.proofs.pair.ringed_row.Lts as lts
-use Rattle.limits.proofs.row_bytes.Reads as row-bytes-reads
-use Rattle.places.proofs.bits.less.Reads as less-reads
-use Rattle.places.proofs.bits.smaller.Reads as smaller-reads
-use Rattle.quick.proofs.rows.first_row.Reads as first-row-reads
-use Rattle.quick.proofs.rows.free_row.Reads as free-row-reads
-use Rattle.quick.proofs.rows.seed_rows.Reads as seed-rows-reads
-use Rattle.quick.proofs.words64.row.Reads as row-reads
-use Rattle.words.proofs.rows.put.Reads as put-reads
-
--- src/pair.rt:57:9
-row-bytes-requires : tie.Need-row-bytes-requires
-row-bytes-requires c κs = search needs
-
--- src/pair.rt:58:9
-less-requires : tie.Need-less-requires
-less-requires c κs = search needs
-
--- src/pair.rt:59:39
-add-smaller : tie.Need-add-smaller
-add-smaller c = search needs
-
--- src/pair.rt:59:46
-sub-smaller : tie.Need-sub-smaller
-sub-smaller c = search needs
-
--- src/pair.rt:59:9
-smaller-requires : tie.Need-smaller-requires
-smaller-requires c κs = search needs
 
 -- src/pair.rt:60:48
 mul-seed-rows : tie.Need-mul-seed-rows
@@ -66,46 +36,6 @@ mul-free-row c = omega (arith, fit-of (c .before .before .before .before .before
 free-row-requires : tie.Need-free-row-requires
 free-row-requires c κs = ((c .before .before .before .row-bytes .ensures .1, (row-room (c .before .before .before .before .before .before .before .before .before .before .args .w) (c .before .before .before .before .before .before .before .before .before .before .args .h) (c .before .before .before .before .before .before .before .before .before .before .args .r) (c .before .before .before .row-bytes .result) _ (omega (arith, c .before .before .before .before .before .before .before .before .before .before .pre .0 .0 .1, c .before .before .less .ensures, c .before .smaller .ensures)) (c .before .before .before .row-bytes .ensures .0) (omega (arith, c .before .before .before .before .before .before .before .before .before .before .pre .0 .1 .0 .long)), row-room (c .before .before .before .before .before .before .before .before .before .before .args .w) (c .before .before .before .before .before .before .before .before .before .before .args .h) (c .before .before .before .before .before .before .before .before .before .before .args .r) (c .before .before .before .row-bytes .result) _ (omega (arith, c .before .before .before .before .before .before .before .before .before .before .pre .0 .0 .1, c .before .before .less .ensures, c .before .smaller .ensures)) (c .before .before .before .row-bytes .ensures .0) (c .before .before .before .before .before .before .before .before .before .before .pre .0 .1 .1 .0))), (c .before .before .before .before .before .before .before .before .before .before .pre .1 .0 .1 .0 .long, (omega (arith, c .before .before .before .before .before .before .before .before .before .before .pre .0 .0 .0 .h-high, c .before .before .before .before .before .before .before .before .before .before .pre .0 .0 .1), (c .before .before .before .before .before .before .before .before .before .before .pre .1 .0 .1 .1, c .before .before .before .before .before .before .before .before .before .before .pre .1 .0 .0 .1))))
 
--- src/pair.rt:62:9
-first-row-requires : tie.Need-first-row-requires
-first-row-requires c κs = search needs
-
--- src/pair.rt:64:22
-slice-aggregate-put : tie.Need-slice-aggregate-put
-slice-aggregate-put c = search needs
-
--- src/pair.rt:64:5
-put-requires : tie.Need-put-requires
-put-requires c κs = search needs
-
--- src/pair.rt:66:22
-slice-aggregate-put-2 : tie.Need-slice-aggregate-put-2
-slice-aggregate-put-2 c = search needs
-
--- src/pair.rt:66:5
-put-requires-2 : tie.Need-put-requires-2
-put-requires-2 c κs = search needs
-
--- src/pair.rt:68:22
-slice-aggregate-put-3 : tie.Need-slice-aggregate-put-3
-slice-aggregate-put-3 c = search needs
-
--- src/pair.rt:68:5
-put-requires-3 : tie.Need-put-requires-3
-put-requires-3 c κs = search needs
-
--- src/pair.rt:69:38
-slice-aggregate-row : tie.Need-slice-aggregate-row
-slice-aggregate-row c = search needs
-
--- src/pair.rt:69:46
-slice-aggregate-row-2 : tie.Need-slice-aggregate-row-2
-slice-aggregate-row-2 c = search needs
-
--- src/pair.rt:69:55
-slice-aggregate-row-3 : tie.Need-slice-aggregate-row-3
-slice-aggregate-row-3 c = search needs
-
 -- src/pair.rt:69:5
 row-requires : tie.Need-row-requires
 row-requires c κs = (((c .before .before .before .before .before .before .before .before .before .before .before .before .before .before .before .before .before .before .before .before .before .before .before .before .pre .0 .0 .0, c .before .before .before .before .before .before .before .before .before .before .before .before .before .before .before .before .before .before .before .before .before .before .before .before .pre .0 .1 .1 .1), (c .before .before .before .before .before .before .before .before .before .before .before .before .before .before .before .before .before .before .before .before .before .before .before .before .pre .0 .0 .1, c .before .before .before .before .before .before .before .before .before .before .before .before .before .before .before .before .before .before .before .before .before .before .before .before .pre .1 .0 .0 .0)), (omega (arith, c .before .before .before .before .before .before .before .before .before .before .put .kept .0, length-replicate {A = ℕ} 4 0), (omega (arith, c .before .before .before .before .before .before .before .put2 .kept .0, length-replicate {A = ℕ} 4 0), omega (arith, c .before .before .before .before .put3 .kept .0, length-replicate {A = ℕ} 4 0))))
@@ -117,27 +47,7 @@ returns c = ((λ e k l. good-sound (c .before .before .before .before .before .b
 pub ringed-row-spec : {M : Type 1} → statement M
 ringed-row-spec =
     tie.close
-    (tie.spec
-    row-bytes-requires
-    less-requires
-    add-smaller
-    sub-smaller
-    smaller-requires
-    mul-seed-rows
-    mul-seed-rows-2
-    mul-seed-rows-3
-    seed-rows-requires
-    mul-free-row
-    free-row-requires
-    first-row-requires
-    slice-aggregate-put
-    put-requires
-    slice-aggregate-put-2
-    put-requires-2
-    slice-aggregate-put-3
-    put-requires-3
-    slice-aggregate-row
-    slice-aggregate-row-2
-    slice-aggregate-row-3
-    row-requires
-    returns)
+    (tie.spec (λ c κs. search needs) (λ c κs. search needs) (λ c. search needs) (λ c. search needs) (λ c κs. search needs) mul-seed-rows
+    mul-seed-rows-2 mul-seed-rows-3 seed-rows-requires mul-free-row free-row-requires (λ c κs. search needs) (λ c. search needs)
+    (λ c κs. search needs) (λ c. search needs) (λ c κs. search needs) (λ c. search needs) (λ c κs. search needs) (λ c. search needs)
+    (λ c. search needs) (λ c. search needs) row-requires returns)

@@ -7,16 +7,6 @@ use native.Mathlib.Omega.{arith}
 use borrow.Author.Needs.{needs}
 use Rattle.quick.proofs.pair.row.Statement.{statement}
 use Rattle.quick.proofs.pair.row.Tie as tie
-use Rattle.quick.proofs.pair.row.Reads as reads
-use Rattle.quick.proofs.pair.row.Lts as lts
-use Rattle.limits.proofs.row_bytes.Reads as row-bytes-reads
-use Rattle.quick.proofs.pair.ringed_row.Reads as ringed-row-reads
-use Rattle.quick.proofs.rows.hang_some.Reads as hang-some-reads
-use Rattle.words.proofs.rows.any.Reads as any-reads
-
--- src/pair.rt:95:9
-row-bytes-requires : tie.Need-row-bytes-requires
-row-bytes-requires c κs = search needs
 
 -- src/pair.rt:96:62
 mul-hang-some : tie.Need-mul-hang-some
@@ -25,10 +15,6 @@ mul-hang-some c = omega (arith, fit-of (c .before .before .before .before .befor
 -- src/pair.rt:96:9
 hang-some-requires : tie.Need-hang-some-requires
 hang-some-requires c κs = (c .row-bytes .ensures .1, ((row-room (c .before .before .before .before .before .before .before .before .before .args .w) (c .before .before .before .before .before .before .before .before .before .args .h) (c .before .before .before .before .before .before .before .before .before .args .r) (c .row-bytes .result) _ (c .before .before .before .before .before .before .before .before .before .pre .0 .0 .1) (c .row-bytes .ensures .0) (c .before .before .before .before .before .before .before .before .before .pre .0 .1 .1 .0 .low-long), row-room (c .before .before .before .before .before .before .before .before .before .args .w) (c .before .before .before .before .before .before .before .before .before .args .h) (c .before .before .before .before .before .before .before .before .before .args .r) (c .row-bytes .result) _ (c .before .before .before .before .before .before .before .before .before .pre .0 .0 .1) (c .row-bytes .ensures .0) (c .before .before .before .before .before .before .before .before .before .pre .0 .1 .1 .0 .up-long)), (row-room (c .before .before .before .before .before .before .before .before .before .args .w) (c .before .before .before .before .before .before .before .before .before .args .h) (c .before .before .before .before .before .before .before .before .before .args .r) (c .row-bytes .result) _ (c .before .before .before .before .before .before .before .before .before .pre .0 .0 .1) (c .row-bytes .ensures .0) (c .before .before .before .before .before .before .before .before .before .pre .0 .1 .1 .0 .below-long), row-room (c .before .before .before .before .before .before .before .before .before .args .w) (c .before .before .before .before .before .before .before .before .before .args .h) (c .before .before .before .before .before .before .before .before .before .args .r) (c .row-bytes .result) _ (c .before .before .before .before .before .before .before .before .before .pre .0 .0 .1) (c .row-bytes .ensures .0) (c .before .before .before .before .before .before .before .before .before .pre .0 .1 .1 .0 .above-long))))
-
--- src/pair.rt:98:43
-any-requires : tie.Need-any-requires
-any-requires c κs = search needs
 
 -- src/pair.rt:98:9
 returns : tie.Need-returns
@@ -45,11 +31,4 @@ returns-2 c = (c .ringed-row .ensures .0, (λ e s k l. held-pixel (c .before .be
 pub row-spec : {M : Type 1} → statement M
 row-spec =
     tie.close
-    (tie.spec
-    row-bytes-requires
-    mul-hang-some
-    hang-some-requires
-    any-requires
-    returns
-    ringed-row-requires
-    returns-2)
+    (tie.spec (λ c κs. search needs) mul-hang-some hang-some-requires (λ c κs. search needs) returns ringed-row-requires returns-2)

@@ -15,13 +15,6 @@ use native.Mathlib.Omega.{arith}
 use borrow.Author.Needs.{needs}
 use Rattle.quick.proofs.pair.rows.Statement.{statement}
 use Rattle.quick.proofs.pair.rows.Tie as tie
-use Rattle.quick.proofs.pair.rows.Reads as reads
-use Rattle.quick.proofs.pair.rows.Lts as lts
-use Rattle.limits.proofs.row_bytes.Reads as row-bytes-reads
-use Rattle.quick.proofs.hangs.some.Reads as some-reads
-use Rattle.quick.proofs.marks.joined.Reads as joined-reads
-use Rattle.quick.proofs.pair.both.Reads as both-reads
-use Rattle.quick.proofs.pair.row.Reads as row-reads
 
 abbrev Inv-loop : tie.InvT-loop
 Inv-loop low up below above rings marks over ones disc halves w h q t rb held₀ r₀ held r = (r ≤ h) × ((y : ℕ) → y < r → Row-good w h (q .0) t (seen w disc) low up rings y) × (held ≡ true → (y : ℕ) → y < r → Row-held w low up below above rings y)
@@ -61,17 +54,9 @@ row-requires c κs = (((c .before .before .before .before .before .before .befor
 returns : tie.Need-returns Inv-loop μ-loop
 returns c = ((λ e. clash e refl), (λ e. clash e refl))
 
--- src/pair.rt:126:9
-both-requires : tie.Need-both-requires Inv-loop μ-loop
-both-requires c κs = search needs
-
 -- src/pair.rt:127:9
 add-r : tie.Need-add-r Inv-loop μ-loop
 add-r c = omega (arith, c .before .before .before .before .before .before .before .before .before .before .before .before .before .before .before .before .before .before .before .pre .0 .0 .h-high)
-
--- src/pair.rt:119:5
-loop-less : tie.Need-loop-less Inv-loop μ-loop
-loop-less c = search needs
 
 -- src/pair.rt:119:5
 loop-again : tie.Need-loop-again Inv-loop μ-loop
@@ -84,19 +69,5 @@ returns-2 c = ((λ e y l. c .before .loop .inv .1 y (omega arith)), (λ e y l. c
 pub rows-spec : {M : Type 1} → statement M
 rows-spec =
     tie.close
-    (tie.spec
-    Inv-loop
-    μ-loop
-    row-bytes-requires
-    loop-holds
-    mul-joined
-    joined-requires
-    mul-some
-    some-requires
-    row-requires
-    returns
-    both-requires
-    add-r
-    loop-less
-    loop-again
-    returns-2)
+    (tie.spec Inv-loop μ-loop row-bytes-requires loop-holds mul-joined joined-requires mul-some some-requires row-requires returns
+    (λ c κs. search needs) add-r (λ c. search needs) loop-again returns-2)

@@ -6,22 +6,10 @@ use native.Mathlib.Omega.{arith}
 use borrow.Author.Needs.{needs}
 use Rattle.quick.proofs.rows.first_row.Statement.{statement}
 use Rattle.quick.proofs.rows.first_row.Tie as tie
-use Rattle.quick.proofs.rows.first_row.Reads as reads
-use Rattle.quick.proofs.rows.first_row.Lts as lts
-use Rattle.words.proofs.rows.both.Reads as both-reads
-use Rattle.words.proofs.rows.wide.Reads as wide-reads
-
--- src/rows.rt:89:23
-wide-requires : tie.Need-wide-requires
-wide-requires c κs = search needs
-
--- src/rows.rt:89:5
-both-requires : tie.Need-both-requires
-both-requires c κs = search needs
 
 -- src/rows.rt:86:1
 returns : tie.Need-returns
 returns c = λ k e. (and-r (column (c .before .wide .result) k) _ (sym (c .both .ensures k) ∙ e), sym (c .before .wide .ensures k (column-in (c .before .wide .result) k (and-l (column (c .before .wide .result) k) _ (sym (c .both .ensures k) ∙ e)))) ∙ and-l (column (c .before .wide .result) k) _ (sym (c .both .ensures k) ∙ e))
 
 pub first-row-spec : {M : Type 1} → statement M
-first-row-spec = tie.close (tie.spec wide-requires both-requires returns)
+first-row-spec = tie.close (tie.spec (λ c κs. search needs) (λ c κs. search needs) returns)

@@ -6,88 +6,11 @@ use native.Mathlib.Omega.{arith}
 use borrow.Author.Needs.{needs}
 use Rattle.quick.proofs.rows.seed_row.Statement.{statement}
 use Rattle.quick.proofs.rows.seed_row.Tie as tie
-use Rattle.quick.proofs.rows.seed_row.Reads as reads
-use Rattle.quick.proofs.rows.seed_row.Lts as lts
-use Rattle.words.proofs.bytes.word.Reads as word-reads
-use Rattle.words.proofs.rows.both.Reads as both-reads
-use Rattle.words.proofs.rows.read.Reads as read-reads
-
--- src/rows.rt:22:13
-word-requires : tie.Need-word-requires
-word-requires c κs = search needs
-
--- src/rows.rt:23:42
-add-word : tie.Need-add-word
-add-word c = search needs
-
--- src/rows.rt:23:13
-word-requires-2 : tie.Need-word-requires-2
-word-requires-2 c κs = search needs
-
--- src/rows.rt:24:42
-add-word-2 : tie.Need-add-word-2
-add-word-2 c = search needs
-
--- src/rows.rt:24:13
-word-requires-3 : tie.Need-word-requires-3
-word-requires-3 c κs = search needs
-
--- src/rows.rt:25:42
-add-word-3 : tie.Need-add-word-3
-add-word-3 c = search needs
-
--- src/rows.rt:25:13
-word-requires-4 : tie.Need-word-requires-4
-word-requires-4 c κs = search needs
-
--- src/rows.rt:27:13
-word-requires-5 : tie.Need-word-requires-5
-word-requires-5 c κs = search needs
-
--- src/rows.rt:28:41
-add-word-4 : tie.Need-add-word-4
-add-word-4 c = search needs
-
--- src/rows.rt:28:13
-word-requires-6 : tie.Need-word-requires-6
-word-requires-6 c κs = search needs
-
--- src/rows.rt:29:41
-add-word-5 : tie.Need-add-word-5
-add-word-5 c = search needs
-
--- src/rows.rt:29:13
-word-requires-7 : tie.Need-word-requires-7
-word-requires-7 c κs = search needs
-
--- src/rows.rt:30:41
-add-word-6 : tie.Need-add-word-6
-add-word-6 c = search needs
-
--- src/rows.rt:30:13
-word-requires-8 : tie.Need-word-requires-8
-word-requires-8 c κs = search needs
-
--- src/rows.rt:32:9
-both-requires : tie.Need-both-requires
-both-requires c κs = search needs
 
 -- src/rows.rt:32:9
 returns : tie.Need-returns
 unfolding seedPart
 returns c = λ k. c .both .ensures k ∙ ap₂ _&&_ (four-words (c .before .before .before .before .before .before .before .before .before .before .before .before .args .low .now) (c .before .before .before .before .before .before .before .before .before .before .before .before .args .a) (c .before .before .before .before .before .before .before .before .before .before .before .before .args .n) _ _ _ _ (c .before .before .before .before .before .before .before .before .before .if1 .taken) (c .before .before .before .before .before .before .before .before .word .ensures) (c .before .before .before .before .before .before .before .word2 .ensures) (c .before .before .before .before .before .before .word3 .ensures) (c .before .before .before .before .before .word4 .ensures) k) (four-words (c .before .before .before .before .before .before .before .before .before .before .before .before .args .up .now) (c .before .before .before .before .before .before .before .before .before .before .before .before .args .a) (c .before .before .before .before .before .before .before .before .before .before .before .before .args .n) _ _ _ _ (c .before .before .before .before .before .before .before .before .before .if1 .taken) (c .before .before .before .before .word5 .ensures) (c .before .before .before .word6 .ensures) (c .before .before .word7 .ensures) (c .before .word8 .ensures) k)
-
--- src/rows.rt:34:23
-read-requires : tie.Need-read-requires
-read-requires c κs = search needs
-
--- src/rows.rt:34:53
-read-requires-2 : tie.Need-read-requires-2
-read-requires-2 c κs = search needs
-
--- src/rows.rt:34:5
-both-requires-2 : tie.Need-both-requires-2
-both-requires-2 c κs = search needs
 
 -- src/rows.rt:17:1
 returns-2 : tie.Need-returns-2
@@ -97,24 +20,7 @@ returns-2 c = λ k. c .both2 .ensures k ∙ ap₂ _&&_ (c .before .before .read 
 pub seed-row-spec : {M : Type 1} → statement M
 seed-row-spec =
     tie.close
-    (tie.spec
-    word-requires
-    add-word
-    word-requires-2
-    add-word-2
-    word-requires-3
-    add-word-3
-    word-requires-4
-    word-requires-5
-    add-word-4
-    word-requires-6
-    add-word-5
-    word-requires-7
-    add-word-6
-    word-requires-8
-    both-requires
-    returns
-    read-requires
-    read-requires-2
-    both-requires-2
-    returns-2)
+    (tie.spec (λ c κs. search needs) (λ c. search needs) (λ c κs. search needs) (λ c. search needs) (λ c κs. search needs)
+    (λ c. search needs) (λ c κs. search needs) (λ c κs. search needs) (λ c. search needs) (λ c κs. search needs) (λ c. search needs)
+    (λ c κs. search needs) (λ c. search needs) (λ c κs. search needs) (λ c κs. search needs) returns (λ c κs. search needs)
+    (λ c κs. search needs) (λ c κs. search needs) returns-2)

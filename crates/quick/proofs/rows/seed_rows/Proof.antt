@@ -4,30 +4,6 @@ use native.Mathlib.Omega.{arith}
 use borrow.Author.Needs.{needs}
 use Rattle.quick.proofs.rows.seed_rows.Statement.{statement}
 use Rattle.quick.proofs.rows.seed_rows.Tie as tie
-use Rattle.quick.proofs.rows.seed_rows.Reads as reads
-use Rattle.quick.proofs.rows.seed_rows.Lts as lts
-use Rattle.quick.proofs.rows.seed_row.Reads as seed-row-reads
-use Rattle.words.proofs.rows.either.Reads as either-reads
-
--- src/rows.rt:29:29
-seed-row-requires : tie.Need-seed-row-requires
-seed-row-requires c κs = search needs
-
--- src/rows.rt:29:54
-seed-row-requires-2 : tie.Need-seed-row-requires-2
-seed-row-requires-2 c κs = search needs
-
--- src/rows.rt:29:9
-either-requires : tie.Need-either-requires
-either-requires c κs = search needs
-
--- src/rows.rt:30:9
-seed-row-requires-3 : tie.Need-seed-row-requires-3
-seed-row-requires-3 c κs = search needs
-
--- src/rows.rt:28:5
-either-requires-2 : tie.Need-either-requires-2
-either-requires-2 c κs = search needs
 
 -- src/rows.rt:23:1
 returns : tie.Need-returns
@@ -36,10 +12,4 @@ returns c = λ k. c .either2 .ensures k ∙ ap₂ _||_ (c .before .before .eithe
 pub seed-rows-spec : {M : Type 1} → statement M
 seed-rows-spec =
     tie.close
-    (tie.spec
-    seed-row-requires
-    seed-row-requires-2
-    either-requires
-    seed-row-requires-3
-    either-requires-2
-    returns)
+    (tie.spec (λ c κs. search needs) (λ c κs. search needs) (λ c κs. search needs) (λ c κs. search needs) (λ c κs. search needs) returns)

@@ -9,11 +9,6 @@ use native.Mathlib.Omega.{arith}
 use borrow.Author.Needs.{needs}
 use Rattle.quick.proofs.stack.pairs.Statement.{statement}
 use Rattle.quick.proofs.stack.pairs.Tie as tie
-use Rattle.quick.proofs.stack.pairs.Reads as reads
-use Rattle.quick.proofs.stack.pairs.Lts as lts
-use Rattle.limits.proofs.row_bytes.Reads as row-bytes-reads
-use Rattle.quick.proofs.pair.both.Reads as both-reads
-use Rattle.quick.proofs.pair.pair.Reads as pair-reads
 
 abbrev Inv-loop : tie.InvT-loop
 Inv-loop part sup rings ones halves w h n q t bytes area at₀ x₀ i₀ at x i = (i ≤ n - 1) × (at ≡ i * bytes) × (x ≡ i * area) × ((y : ℕ) → y < x → Fine w h (q .0) part sup rings y)
@@ -54,48 +49,16 @@ add-next : tie.Need-add-next Inv-loop μ-loop
 add-next c = omega (arith, pair-fits (c .before .before .before .before .before .before .before .before .args .w) (c .before .before .before .before .before .before .before .before .args .h) (c .before .before .before .before .before .before .before .before .args .n) (c .before .loop .i) (c .before .before .row-bytes .result) (c .before .loop .at) (c .before .loop .x) (c .before .before .before .before .before .before .before .before .args .part .now) (c .before .before .before .before .before .before .before .before .args .sup .now) (c .before .before .before .before .before .before .before .before .args .rings .now) (c .before .before .before .before .before .before .before .before .pre .0) (c .before .before .row-bytes .ensures .0) (c .before .before .row-bytes .ensures .1) (c .before .loop .inv .1) (c .before .loop .inv .2) (omega (arith, c .loop-test .taken)))
 
 -- src/stack.rt:34:13
-sub-pair : tie.Need-sub-pair Inv-loop μ-loop
-sub-pair c = search needs
-
--- src/stack.rt:34:13
-part-pair-start : tie.Need-part-pair-start Inv-loop μ-loop
-part-pair-start c = search needs
-
--- src/stack.rt:34:13
 part-pair-end : tie.Need-part-pair-end Inv-loop μ-loop
 part-pair-end c = omega (arith, pair-bytes (c .before .before .before .before .before .before .before .before .args .w) (c .before .before .before .before .before .before .before .before .args .h) (c .before .before .before .before .before .before .before .before .args .n) (c .before .loop .i) (c .before .before .row-bytes .result) (c .before .loop .at) (c .before .loop .x) (c .before .before .before .before .before .before .before .before .args .part .now) (c .before .before .before .before .before .before .before .before .args .sup .now) (c .before .before .before .before .before .before .before .before .args .rings .now) (c .before .before .before .before .before .before .before .before .pre .0) (c .before .before .row-bytes .ensures .0) (c .before .before .row-bytes .ensures .1) (c .before .loop .inv .1) (c .before .loop .inv .2) (omega (arith, c .loop-test .taken)))
-
--- src/stack.rt:35:13
-sub-pair-2 : tie.Need-sub-pair-2 Inv-loop μ-loop
-sub-pair-2 c = search needs
-
--- src/stack.rt:35:13
-part-pair-start-2 : tie.Need-part-pair-start-2 Inv-loop μ-loop
-part-pair-start-2 c = search needs
 
 -- src/stack.rt:35:13
 part-pair-end-2 : tie.Need-part-pair-end-2 Inv-loop μ-loop
 part-pair-end-2 c = omega (arith, pair-bytes (c .before .before .before .before .before .before .before .before .before .args .w) (c .before .before .before .before .before .before .before .before .before .args .h) (c .before .before .before .before .before .before .before .before .before .args .n) (c .before .before .loop .i) (c .before .before .before .row-bytes .result) (c .before .before .loop .at) (c .before .before .loop .x) (c .before .before .before .before .before .before .before .before .before .args .part .now) (c .before .before .before .before .before .before .before .before .before .args .sup .now) (c .before .before .before .before .before .before .before .before .before .args .rings .now) (c .before .before .before .before .before .before .before .before .before .pre .0) (c .before .before .before .row-bytes .ensures .0) (c .before .before .before .row-bytes .ensures .1) (c .before .before .loop .inv .1) (c .before .before .loop .inv .2) (omega (arith, c .before .loop-test .taken)))
 
 -- src/stack.rt:36:13
-sub-pair-3 : tie.Need-sub-pair-3 Inv-loop μ-loop
-sub-pair-3 c = search needs
-
--- src/stack.rt:36:13
-part-pair-start-3 : tie.Need-part-pair-start-3 Inv-loop μ-loop
-part-pair-start-3 c = search needs
-
--- src/stack.rt:36:13
 part-pair-end-3 : tie.Need-part-pair-end-3 Inv-loop μ-loop
 part-pair-end-3 c = omega (arith, pair-bytes (c .before .before .before .before .before .before .before .before .before .before .args .w) (c .before .before .before .before .before .before .before .before .before .before .args .h) (c .before .before .before .before .before .before .before .before .before .before .args .n) (c .before .before .before .loop .i) (c .before .before .before .before .row-bytes .result) (c .before .before .before .loop .at) (c .before .before .before .loop .x) (c .before .before .before .before .before .before .before .before .before .before .args .part .now) (c .before .before .before .before .before .before .before .before .before .before .args .sup .now) (c .before .before .before .before .before .before .before .before .before .before .args .rings .now) (c .before .before .before .before .before .before .before .before .before .before .pre .0) (c .before .before .before .before .row-bytes .ensures .0) (c .before .before .before .before .row-bytes .ensures .1) (c .before .before .before .loop .inv .1) (c .before .before .before .loop .inv .2) (omega (arith, c .before .before .loop-test .taken)))
-
--- src/stack.rt:37:13
-sub-pair-4 : tie.Need-sub-pair-4 Inv-loop μ-loop
-sub-pair-4 c = search needs
-
--- src/stack.rt:37:13
-part-pair-start-4 : tie.Need-part-pair-start-4 Inv-loop μ-loop
-part-pair-start-4 c = search needs
 
 -- src/stack.rt:37:13
 part-pair-end-4 : tie.Need-part-pair-end-4 Inv-loop μ-loop
@@ -106,24 +69,12 @@ mul-pair : tie.Need-mul-pair Inv-loop μ-loop
 mul-pair c = omega (arith, pair-fits (c .before .before .before .before .before .before .before .before .before .before .before .before .args .w) (c .before .before .before .before .before .before .before .before .before .before .before .before .args .h) (c .before .before .before .before .before .before .before .before .before .before .before .before .args .n) (c .before .before .before .before .before .loop .i) (c .before .before .before .before .before .before .row-bytes .result) (c .before .before .before .before .before .loop .at) (c .before .before .before .before .before .loop .x) (c .before .before .before .before .before .before .before .before .before .before .before .before .args .part .now) (c .before .before .before .before .before .before .before .before .before .before .before .before .args .sup .now) (c .before .before .before .before .before .before .before .before .before .before .before .before .args .rings .now) (c .before .before .before .before .before .before .before .before .before .before .before .before .pre .0) (c .before .before .before .before .before .before .row-bytes .ensures .0) (c .before .before .before .before .before .before .row-bytes .ensures .1) (c .before .before .before .before .before .loop .inv .1) (c .before .before .before .before .before .loop .inv .2) (omega (arith, c .before .before .before .before .loop-test .taken)))
 
 -- src/stack.rt:38:13
-sub-pair-5 : tie.Need-sub-pair-5 Inv-loop μ-loop
-sub-pair-5 c = search needs
-
--- src/stack.rt:38:13
-part-pair-start-5 : tie.Need-part-pair-start-5 Inv-loop μ-loop
-part-pair-start-5 c = search needs
-
--- src/stack.rt:38:13
 part-pair-end-5 : tie.Need-part-pair-end-5 Inv-loop μ-loop
 part-pair-end-5 c = omega (arith, pair-rings (c .before .before .before .before .before .before .before .before .before .before .before .before .args .w) (c .before .before .before .before .before .before .before .before .before .before .before .before .args .h) (c .before .before .before .before .before .before .before .before .before .before .before .before .args .n) (c .before .before .before .before .before .loop .i) (c .before .before .before .before .before .before .row-bytes .result) (c .before .before .before .before .before .loop .at) (c .before .before .before .before .before .loop .x) (c .before .before .before .before .before .before .before .before .before .before .before .before .args .part .now) (c .before .before .before .before .before .before .before .before .before .before .before .before .args .sup .now) (c .before .before .before .before .before .before .before .before .before .before .before .before .args .rings .now) (c .before .before .before .before .before .before .before .before .before .before .before .before .pre .0) (c .before .before .before .before .before .before .row-bytes .ensures .0) (c .before .before .before .before .before .before .row-bytes .ensures .1) (c .before .before .before .before .before .loop .inv .1) (c .before .before .before .before .before .loop .inv .2) (omega (arith, c .before .before .before .before .loop-test .taken)))
 
 -- src/stack.rt:33:13
 pair-requires : tie.Need-pair-requires Inv-loop μ-loop
 pair-requires c κs = (((c .before .before .before .before .before .before .before .before .before .before .before .before .before .pre .0 .sized, c .before .before .before .before .before .before .before .before .before .before .before .before .before .pre .1 .1), (pair-clean (c .before .before .before .before .before .before .before .before .before .before .before .before .before .args .w) (c .before .before .before .before .before .before .before .before .before .before .before .before .before .args .h) (c .before .before .before .before .before .before .before .before .before .before .before .before .before .args .n) (c .before .before .before .before .before .before .loop .i) (c .before .before .before .before .before .before .before .row-bytes .result) (c .before .before .before .before .before .before .loop .at) (c .before .before .before .before .before .before .loop .x) (c .before .before .before .before .before .before .before .before .before .before .before .before .before .args .part .now) (c .before .before .before .before .before .before .before .before .before .before .before .before .before .args .sup .now) (c .before .before .before .before .before .before .before .before .before .before .before .before .before .args .rings .now) (c .before .before .before .before .before .before .before .before .before .before .before .before .before .pre .0) (c .before .before .before .before .before .before .before .row-bytes .ensures .0) (c .before .before .before .before .before .before .before .row-bytes .ensures .1) (c .before .before .before .before .before .before .loop .inv .1) (c .before .before .before .before .before .before .loop .inv .2) (omega (arith, c .before .before .before .before .before .loop-test .taken)), pair-count (c .before .before .before .before .before .before .before .before .before .before .before .before .before .args .w) (c .before .before .before .before .before .before .before .before .before .before .before .before .before .args .h) (c .before .before .before .before .before .before .before .before .before .before .before .before .before .args .n) (c .before .before .before .before .before .before .loop .i) (c .before .before .before .before .before .before .before .row-bytes .result) (c .before .before .before .before .before .before .loop .at) (c .before .before .before .before .before .before .loop .x) (c .before .before .before .before .before .before .before .before .before .before .before .before .before .args .part .now) (c .before .before .before .before .before .before .before .before .before .before .before .before .before .args .sup .now) (c .before .before .before .before .before .before .before .before .before .before .before .before .before .args .rings .now) (c .before .before .before .before .before .before .before .before .before .before .before .before .before .pre .0) (c .before .before .before .before .before .before .before .row-bytes .ensures .0) (c .before .before .before .before .before .before .before .row-bytes .ensures .1) (c .before .before .before .before .before .before .loop .inv .1) (c .before .before .before .before .before .before .loop .inv .2) (omega (arith, c .before .before .before .before .before .loop-test .taken)))), (pair-long (c .before .before .before .before .before .before .before .before .before .before .before .before .before .args .w) (c .before .before .before .before .before .before .before .before .before .before .before .before .before .args .h) (c .before .before .before .before .before .before .before .before .before .before .before .before .before .args .n) (c .before .before .before .before .before .before .loop .i) (c .before .before .before .before .before .before .before .row-bytes .result) (c .before .before .before .before .before .before .loop .at) (c .before .before .before .before .before .before .loop .x) (c .before .before .before .before .before .before .before .before .before .before .before .before .before .args .part .now) (c .before .before .before .before .before .before .before .before .before .before .before .before .before .args .sup .now) (c .before .before .before .before .before .before .before .before .before .before .before .before .before .args .rings .now) (c .before .before .before .before .before .before .before .before .before .before .before .before .before .pre .0) (c .before .before .before .before .before .before .before .row-bytes .ensures .0) (c .before .before .before .before .before .before .before .row-bytes .ensures .1) (c .before .before .before .before .before .before .loop .inv .1) (c .before .before .before .before .before .before .loop .inv .2) (omega (arith, c .before .before .before .before .before .loop-test .taken)), c .before .before .before .before .before .before .before .before .before .before .before .before .before .pre .1 .0))
-
--- src/stack.rt:45:13
-both-requires : tie.Need-both-requires Inv-loop μ-loop
-both-requires c κs = search needs
 
 -- src/stack.rt:46:13
 returns : tie.Need-returns Inv-loop μ-loop
@@ -132,10 +83,6 @@ returns c = λ e. clash e refl
 -- src/stack.rt:50:9
 add-i : tie.Need-add-i Inv-loop μ-loop
 add-i c = omega (arith, c .before .before .before .before .before .before .before .before .before .before .before .before .before .before .before .before .pre .0 .n-high, c .before .before .before .before .before .before .before .before .loop-test .taken)
-
--- src/stack.rt:29:5
-loop-less : tie.Need-loop-less Inv-loop μ-loop
-loop-less c = search needs
 
 -- src/stack.rt:29:5
 loop-again : tie.Need-loop-again Inv-loop μ-loop
@@ -148,37 +95,7 @@ returns-2 c = λ e y l. c .before .loop .inv .3 y (omega (arith, stretch-end (c 
 pub pairs-spec : {M : Type 1} → statement M
 pairs-spec =
     tie.close
-    (tie.spec
-    Inv-loop
-    μ-loop
-    row-bytes-requires
-    mul-bytes
-    mul-area
-    loop-holds
-    add-loop
-    add-mid
-    add-end
-    add-next
-    sub-pair
-    part-pair-start
-    part-pair-end
-    sub-pair-2
-    part-pair-start-2
-    part-pair-end-2
-    sub-pair-3
-    part-pair-start-3
-    part-pair-end-3
-    sub-pair-4
-    part-pair-start-4
-    part-pair-end-4
-    mul-pair
-    sub-pair-5
-    part-pair-start-5
-    part-pair-end-5
-    pair-requires
-    both-requires
-    returns
-    add-i
-    loop-less
-    loop-again
-    returns-2)
+    (tie.spec Inv-loop μ-loop row-bytes-requires mul-bytes mul-area loop-holds add-loop add-mid add-end add-next (λ c. search needs)
+    (λ c. search needs) part-pair-end (λ c. search needs) (λ c. search needs) part-pair-end-2 (λ c. search needs) (λ c. search needs)
+    part-pair-end-3 (λ c. search needs) (λ c. search needs) part-pair-end-4 mul-pair (λ c. search needs) (λ c. search needs) part-pair-end-5
+    pair-requires (λ c κs. search needs) returns add-i (λ c. search needs) loop-again returns-2)

@@ -3,14 +3,6 @@ use native.Mathlib.Omega.{arith}
 use borrow.Author.Needs.{needs}
 use Rattle.quick.proofs.stack.trusted.Statement.{statement}
 use Rattle.quick.proofs.stack.trusted.Tie as tie
-use Rattle.quick.proofs.stack.trusted.Reads as reads
-use Rattle.quick.proofs.stack.trusted.Lts as lts
-use Rattle.quick.proofs.stack.narrow.Reads as narrow-reads
-use Rattle.roots.proofs.root.Reads as root-reads
-
--- src/stack.rt:67:12
-root-requires : tie.Need-root-requires
-root-requires c κs = search needs
 
 -- src/stack.rt:67:5
 narrow-requires : tie.Need-narrow-requires
@@ -21,4 +13,4 @@ returns : tie.Need-returns
 returns c = trust-fits (c .before .before .before .args .q .0) (c .before .root .result) _ (c .before .root .ensures) (c .narrow .ensures)
 
 pub trusted-spec : {M : Type 1} → statement M
-trusted-spec = tie.close (tie.spec root-requires narrow-requires returns)
+trusted-spec = tie.close (tie.spec (λ c κs. search needs) narrow-requires returns)

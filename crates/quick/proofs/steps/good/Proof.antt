@@ -7,42 +7,18 @@ use native.Mathlib.Omega.{arith}
 use borrow.Author.Needs.{needs}
 use Rattle.quick.proofs.steps.good.Statement.{statement}
 use Rattle.quick.proofs.steps.good.Tie as tie
-use Rattle.quick.proofs.steps.good.Reads as reads
-use Rattle.quick.proofs.steps.good.Lts as lts
-use Rattle.quick.proofs.bits.bit.Reads as bit-reads
-use Rattle.quick.proofs.steps.steps.Reads as steps-reads
 
 -- src/steps.rt:54:9
 returns : tie.Need-returns
 returns c = λ e. good-none (c .before .before .args .w) (c .before .before .args .h) _ _ (c .before .before .args .rings .now) (c .before .before .args .r) (c .before .before .args .x + c .before .before .args .k) (omega arith)
 
 -- src/steps.rt:57:9
-bit-requires : tie.Need-bit-requires
-bit-requires c κs = search needs
-
--- src/steps.rt:57:9
 returns-2 : tie.Need-returns-2
 returns-2 c = λ e. good-first (c .before .before .before .before .args .w) (c .before .before .before .before .args .h) _ _ (c .before .before .before .before .args .rings .now) (c .before .before .before .before .args .r) (c .before .before .before .before .args .x + c .before .before .before .before .args .k) (c .before .before .before .before .args .v) (c .before .before .before .before .pre .1) _ e (omega arith) (c .bit .ensures)
-
--- src/steps.rt:59:9
-bit-requires-2 : tie.Need-bit-requires-2
-bit-requires-2 c κs = search needs
 
 -- src/steps.rt:60:9
 returns-3 : tie.Need-returns-3
 returns-3 c = λ e. clash e refl
-
--- src/steps.rt:62:27
-add-steps : tie.Need-add-steps
-add-steps c = search needs
-
--- src/steps.rt:62:34
-sub-steps : tie.Need-sub-steps
-sub-steps c = search needs
-
--- src/steps.rt:62:5
-steps-requires : tie.Need-steps-requires
-steps-requires c κs = search needs
 
 -- src/steps.rt:38:1
 returns-4 : tie.Need-returns-4
@@ -51,13 +27,5 @@ returns-4 c = λ e. good-step (c .before .before .before .before .before .before
 pub good-spec : {M : Type 1} → statement M
 good-spec =
     tie.close
-    (tie.spec
-    returns
-    bit-requires
-    returns-2
-    bit-requires-2
-    returns-3
-    add-steps
-    sub-steps
-    steps-requires
-    returns-4)
+    (tie.spec returns (λ c κs. search needs) returns-2 (λ c κs. search needs) returns-3 (λ c. search needs) (λ c. search needs)
+    (λ c κs. search needs) returns-4)

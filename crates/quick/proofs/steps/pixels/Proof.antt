@@ -13,10 +13,6 @@ use native.Mathlib.Omega.{arith}
 use borrow.Author.Needs.{needs}
 use Rattle.quick.proofs.steps.pixels.Statement.{statement}
 use Rattle.quick.proofs.steps.pixels.Tie as tie
-use Rattle.quick.proofs.steps.pixels.Reads as reads
-use Rattle.quick.proofs.steps.pixels.Lts as lts
-use Rattle.quick.proofs.bits.alone.Reads as alone-reads
-use Rattle.quick.proofs.steps.good.Reads as good-reads
 
 abbrev Inv-loop : tie.InvT-loop
 Inv-loop rings w h r x from to free first at got₀ k₀ got k = (from ≤ k) × (k ≤ to) × ((j : ℕ) → from ≤ j → j < k → Good w h (bitOfWord free j) (bitOfWord first j) rings r (x + j)) × ((j : ℕ) → j < 64 → bitOfWord got j ≡ true → 0 < getD rings (r * w + (x + j)) 0)
@@ -56,18 +52,6 @@ good-requires c κs = ((c .before .before .before .before .pre .0, (c .before .b
 returns : tie.Need-returns Inv-loop μ-loop
 returns c = record { fine = λ e. clash e refl; has = c .before .before .before .before .loop .inv .3 }
 
--- src/steps.rt:88:21
-alone-requires : tie.Need-alone-requires Inv-loop μ-loop
-alone-requires c κs = search needs
-
--- src/steps.rt:89:9
-add-k : tie.Need-add-k Inv-loop μ-loop
-add-k c = search needs
-
--- src/steps.rt:83:5
-loop-less : tie.Need-loop-less Inv-loop μ-loop
-loop-less c = search needs
-
 -- src/steps.rt:83:5
 loop-again : tie.Need-loop-again Inv-loop μ-loop
 loop-again c = (omega arith, omega arith, all-more (λ j. Good (c .before .before .before .before .before .before .before .args .w) (c .before .before .before .before .before .before .before .args .h) (bitOfWord (c .before .before .before .before .before .before .before .args .free) j) (bitOfWord (c .before .before .before .before .before .before .before .args .first) j) (c .before .before .before .before .before .before .before .args .rings .now) (c .before .before .before .before .before .before .before .args .r) (c .before .before .before .before .before .before .before .args .x + j)) (c .before .before .before .before .before .before .before .args .from) (c .before .before .before .before .before .loop .k) (c .before .before .before .before .before .loop .inv .2) (c .before .before .good2 .ensures (not-false _ (c .before .if1 .left))), got-more (c .before .before .before .before .before .before .before .args .rings .now) (c .before .before .before .before .before .before .before .args .r * c .before .before .before .before .before .before .before .args .w) (c .before .before .before .before .before .before .before .args .x) (c .before .before .before .before .before .loop .got) (c .alone .result) _ (c .before .before .before .before .before .loop .k) (ap (λ (p : ℕ). getD (c .before .before .before .before .before .before .before .args .rings .now) p 0) (omega arith)) (c .before .before .before .before .before .loop .inv .3) (c .alone .ensures))
@@ -79,19 +63,5 @@ returns-2 c = record { fine = λ e j a b l. c .before .loop .inv .2 j a (omega a
 pub pixels-spec : {M : Type 1} → statement M
 pixels-spec =
     tie.close
-    (tie.spec
-    Inv-loop
-    μ-loop
-    mul-at
-    add-at
-    loop-holds
-    add-v
-    mul-v
-    shared-slice-read-v
-    good-requires
-    returns
-    alone-requires
-    add-k
-    loop-less
-    loop-again
-    returns-2)
+    (tie.spec Inv-loop μ-loop mul-at add-at loop-holds add-v mul-v shared-slice-read-v good-requires returns (λ c κs. search needs)
+    (λ c. search needs) (λ c. search needs) loop-again returns-2)

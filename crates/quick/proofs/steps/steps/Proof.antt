@@ -45,20 +45,8 @@ mul-if1 c = omega (arith, step-fits (c .before .before .before .before .before .
 shared-slice-read-if1 : tie.Need-shared-slice-read-if1 Inv-loop μ-loop Inv-rows μ-rows
 shared-slice-read-if1 c = omega (arith, in-plane (c .before .before .before .before .before .before .before .before .args .w) (c .before .before .before .before .before .before .before .before .args .h) (c .before .before .before .before .beside .result) (c .before .beside2 .result) (c .before .before .before .before .beside .ensures .0) (c .before .beside2 .ensures .0), c .before .before .before .before .before .before .before .before .pre .0 .1)
 
-add-j : tie.Need-add-j Inv-loop μ-loop Inv-rows μ-rows
-add-j c = search needs
-
-loop-less : tie.Need-loop-less Inv-loop μ-loop Inv-rows μ-rows
-loop-less c = search needs
-
 loop-again : tie.Need-loop-again Inv-loop μ-loop Inv-rows μ-rows
 loop-again c = (c .before .before .before .before .loop .inv .0, omega arith)
-
-add-i : tie.Need-add-i Inv-loop μ-loop Inv-rows μ-rows
-add-i c = search needs
-
-rows-less : tie.Need-rows-less Inv-loop μ-loop Inv-rows μ-rows
-rows-less c = search needs
 
 rows-again : tie.Need-rows-again Inv-loop μ-loop Inv-rows μ-rows
 rows-again c = (c .before .loop .inv .0, omega arith)
@@ -72,24 +60,6 @@ returns-2 c = λ e. step-at (c .before .before .before .before .before .before .
 pub steps-spec : {M : Type 1} → statement M
 steps-spec =
     tie.close
-    (tie.spec
-    Inv-loop
-    μ-loop
-    Inv-rows
-    μ-rows
-    rows-holds
-    beside-requires
-    mul-start
-    loop-holds
-    beside-requires-2
-    add-if1
-    mul-if1
-    shared-slice-read-if1
-    add-j
-    loop-less
-    loop-again
-    add-i
-    rows-less
-    rows-again
-    returns
+    (tie.spec Inv-loop μ-loop Inv-rows μ-rows rows-holds beside-requires mul-start loop-holds beside-requires-2 add-if1 mul-if1
+    shared-slice-read-if1 (λ c. search needs) (λ c. search needs) loop-again (λ c. search needs) (λ c. search needs) rows-again returns
     returns-2)

@@ -12,12 +12,6 @@ use native.Mathlib.Omega.{arith}
 use borrow.Author.Needs.{needs}
 use Rattle.quick.proofs.words64.eights.Statement.{statement}
 use Rattle.quick.proofs.words64.eights.Tie as tie
-use Rattle.quick.proofs.words64.eights.Reads as reads
-use Rattle.quick.proofs.words64.eights.Lts as lts
-use Rattle.quick.proofs.bits.byte.Reads as byte-reads
-use Rattle.quick.proofs.bits.patched.Reads as patched-reads
-use Rattle.quick.proofs.eights.alike.Reads as alike-reads
-use Rattle.quick.proofs.steps.pixels.Reads as pixels-reads
 
 abbrev Inv-loop : tie.InvT-loop
 Inv-loop rings ones w h r x free first at got₀ b₀ got b = (b ≤ 8) × Before w h rings r x free first b (8 * b) × ((k : ℕ) → k < 64 → bitOfWord got k ≡ true → Still rings (r * w) x first b k)
@@ -37,45 +31,17 @@ add-at c = omega (arith, step-fits (c .before .before .args .w) (c .before .befo
 loop-holds : tie.Need-loop-holds Inv-loop μ-loop
 loop-holds c = (omega arith, (λ k z l. absurd (omega arith)), λ k l e. inr (omega arith, e))
 
--- src/words64.rt:31:51
-mul-alike : tie.Need-mul-alike Inv-loop μ-loop
-mul-alike c = search needs
-
 -- src/words64.rt:31:46
 add-alike : tie.Need-add-alike Inv-loop μ-loop
 add-alike c = omega (arith, step-fits (c .before .before .before .before .args .w) (c .before .before .before .before .args .h) (c .before .before .before .before .args .r) 0 (c .before .before .before .before .pre .0 .0) (c .before .before .before .before .pre .1 .0) (c .before .before .before .before .pre .0 .0 .w-low), c .before .before .before .before .pre .0 .0 .w-high)
-
--- src/words64.rt:31:58
-byte-requires : tie.Need-byte-requires Inv-loop μ-loop
-byte-requires c κs = search needs
 
 -- src/words64.rt:31:12
 alike-requires : tie.Need-alike-requires Inv-loop μ-loop
 alike-requires c κs = (omega (arith, in-plane (c .before .before .before .before .before .args .w) (c .before .before .before .before .before .args .h) (c .before .before .before .before .before .args .r) (c .before .before .before .before .before .args .x + 63) (c .before .before .before .before .before .pre .1 .0) (omega arith)), c .before .before .before .before .before .pre .1 .1 .1)
 
--- src/words64.rt:32:13
-add-b : tie.Need-add-b Inv-loop μ-loop
-add-b c = search needs
-
--- src/words64.rt:30:5
-loop-less : tie.Need-loop-less Inv-loop μ-loop
-loop-less c = search needs
-
 -- src/words64.rt:30:5
 loop-again : tie.Need-loop-again Inv-loop μ-loop
 loop-again c = (omega arith, alike-before (c .before .before .before .before .before .before .before .args .w) (c .before .before .before .before .before .before .before .args .h) (c .before .before .before .before .before .before .before .args .rings .now) (c .before .before .before .before .before .before .before .args .r) (c .before .before .before .before .before .before .before .args .x) (c .before .before .before .before .before .before .before .args .free) (c .before .before .before .before .before .before .before .args .first) (c .before .before .before .before .loop .b) (c .before .before .byte .result) (c .before .alike .ensures (c .if1 .taken)) (c .before .before .byte .ensures) (c .before .before .before .before .loop .inv .1), alike-still (c .before .before .before .before .before .before .before .args .w) (c .before .before .before .before .before .before .before .args .h) (c .before .before .before .before .before .before .before .args .rings .now) (c .before .before .before .before .before .before .before .args .r) (c .before .before .before .before .before .before .before .args .x) (c .before .before .before .before .before .before .before .args .free) (c .before .before .before .before .before .before .before .args .first) (c .before .before .before .before .loop .b) (c .before .before .byte .result) (c .before .alike .ensures (c .if1 .taken)) (c .before .before .byte .ensures) (c .before .before .before .before .loop .got) (c .before .before .before .before .loop .inv .2))
-
--- src/words64.rt:34:61
-mul-pixels : tie.Need-mul-pixels Inv-loop μ-loop
-mul-pixels c = search needs
-
--- src/words64.rt:34:68
-mul-pixels-2 : tie.Need-mul-pixels-2 Inv-loop μ-loop
-mul-pixels-2 c = search needs
-
--- src/words64.rt:34:68
-add-pixels : tie.Need-add-pixels Inv-loop μ-loop
-add-pixels c = search needs
 
 -- src/words64.rt:34:17
 pixels-requires : tie.Need-pixels-requires Inv-loop μ-loop
@@ -84,18 +50,6 @@ pixels-requires c κs = (c .before .before .before .before .before .before .befo
 -- src/words64.rt:36:17
 returns : tie.Need-returns Inv-loop μ-loop
 returns c = record { fine = λ e. clash e refl; has = λ k l e. clash e (bit-zero k) }
-
--- src/words64.rt:38:13
-patched-requires : tie.Need-patched-requires Inv-loop μ-loop
-patched-requires c κs = search needs
-
--- src/words64.rt:39:13
-add-b-2 : tie.Need-add-b-2 Inv-loop μ-loop
-add-b-2 c = search needs
-
--- src/words64.rt:30:5
-loop-less-2 : tie.Need-loop-less-2 Inv-loop μ-loop
-loop-less-2 c = search needs
 
 -- src/words64.rt:30:5
 loop-again-2 : tie.Need-loop-again-2 Inv-loop μ-loop
@@ -108,26 +62,6 @@ returns-2 c = record { fine = λ e k a l u. c .before .loop .inv .1 k a (omega a
 pub eights-spec : {M : Type 1} → statement M
 eights-spec =
     tie.close
-    (tie.spec
-    Inv-loop
-    μ-loop
-    mul-at
-    add-at
-    loop-holds
-    mul-alike
-    add-alike
-    byte-requires
-    alike-requires
-    add-b
-    loop-less
-    loop-again
-    mul-pixels
-    mul-pixels-2
-    add-pixels
-    pixels-requires
-    returns
-    patched-requires
-    add-b-2
-    loop-less-2
-    loop-again-2
-    returns-2)
+    (tie.spec Inv-loop μ-loop mul-at add-at loop-holds (λ c. search needs) add-alike (λ c κs. search needs) alike-requires
+    (λ c. search needs) (λ c. search needs) loop-again (λ c. search needs) (λ c. search needs) (λ c. search needs) pixels-requires returns
+    (λ c κs. search needs) (λ c. search needs) (λ c. search needs) loop-again-2 returns-2)

@@ -8,23 +8,10 @@ use native.Mathlib.Omega.{arith}
 use borrow.Author.Needs.{needs}
 use Rattle.quick.proofs.words64.word.Statement.{statement}
 use Rattle.quick.proofs.words64.word.Tie as tie
-use Rattle.quick.proofs.words64.word.Reads as reads
-use Rattle.quick.proofs.words64.word.Lts as lts
-use Rattle.quick.proofs.marks.gather.Reads as gather-reads
-use Rattle.quick.proofs.steps.pixels.Reads as pixels-reads
-use Rattle.quick.proofs.words64.eights.Reads as eights-reads
 
 -- src/words64.rt:60:9
 returns : tie.Need-returns
 returns c = record { fine = λ e k a b l. absurd (omega arith); has = λ k l e. clash e (bit-zero k) }
-
--- src/words64.rt:62:12
-add-if2 : tie.Need-add-if2
-add-if2 c = search needs
-
--- src/words64.rt:63:59
-sub-pixels : tie.Need-sub-pixels
-sub-pixels c = search needs
 
 -- src/words64.rt:63:9
 pixels-requires : tie.Need-pixels-requires
@@ -61,15 +48,5 @@ returns-4 c = c .eights .ensures
 pub word-spec : {M : Type 1} → statement M
 word-spec =
     tie.close
-    (tie.spec
-    returns
-    add-if2
-    sub-pixels
-    pixels-requires
-    returns-2
-    mul-gather
-    add-gather
-    gather-requires
-    returns-3
-    eights-requires
-    returns-4)
+    (tie.spec returns (λ c. search needs) (λ c. search needs) pixels-requires returns-2 mul-gather add-gather gather-requires returns-3
+    eights-requires returns-4)
