@@ -26,30 +26,21 @@ fn zero(ring: &mut [u16])
     }
 }
 
-// Whether the upper layer has a pixel with none of the lower one below it.
-fn shaded(low: &[u8], up: &[u8]) -> bool
-    requires { ⌜ length (now up) ≡ length (now low) ⌝ }
+// The support of a layer into `out` where every pixel that hangs needs it, with the support of the layer above; true where a pixel hangs:
+// one of the upper layer with none of the lower one below it.
+fn support(up: &[u8], low: &[u8], above: &[u8], out: &mut [u8]) -> bool
+    requires { ⌜ (length (now up) ≡ length (now out)) × (length (now low) ≡ length (now out)) × (length (now above) ≡ length (now out)) ⌝ }
+    ensures { λ _. ⌜ Bits (length (now (out .entry))) (λ j. (bitOf (now (up .entry)) j || bitOf (now (above .entry)) j) && not (bitOf (now (low .entry)) j)) (now (out .exit)) ⌝ }
     ensures { λ d. ⌜ (d ≡ false → (j : ℕ) → j < length (now (low .entry)) * 8 → butNot (bitOf (now (up .entry)) j) (bitOf (now (low .entry)) j) ≡ false) ⌝ }
 {
     let mut all: u8 = 0;
     let mut i = 0;
-    while i < low.len() {
+    while i < out.len() {
         all = all | (up[i] & !low[i]);
+        out[i] = (up[i] | above[i]) & !low[i];
         i += 1;
     }
     all != 0
-}
-
-// The support of a layer into `out`, by the pixels that hang, excused or not, and the support of the layer above.
-fn support(rest: &[u8], low: &[u8], above: &[u8], out: &mut [u8])
-    requires { ⌜ (length (now rest) ≡ length (now out)) × (length (now low) ≡ length (now out)) × (length (now above) ≡ length (now out)) ⌝ }
-    ensures { λ _. ⌜ Bits (length (now (out .entry))) (λ j. (bitOf (now (rest .entry)) j || bitOf (now (above .entry)) j) && not (bitOf (now (low .entry)) j)) (now (out .exit)) ⌝ }
-{
-    let mut i = 0;
-    while i < out.len() {
-        out[i] = (rest[i] | above[i]) & !low[i];
-        i += 1;
-    }
 }
 
 // The rings of a pair with shadow; its excused pixels are taken off the support.
@@ -126,8 +117,7 @@ pub fn layer(
     ensures { λ _. ⌜ Spare w h (now (left .exit)) (now (got .exit)) (now (front .exit)) (now (next .exit)) (now (seed .exit)) (now (lower .exit)) (now (ahead .exit)) ⌝ }
 {
     zero(ring);
-    support(up, low, above, out);
-    if !shaded(low, up) {
+    if !support(up, low, above, out) {
         return;
     }
     hanging(

@@ -10,7 +10,8 @@ use native.Mathlib.Decide.{decLt, decLe, ℕ-discrete}
 use Rattle.rules.specs.Images.{Plane}
 use Rattle.rules.specs.Planning.{near}
 use Rattle.rules.specs.Reach.{apart, halfWidth, root, square}
-use Rattle.laws.specs.Discs.{HalfWidth, half-width, half-small, root-low, root-most, root-small}
+use lib.ListN.{getD}
+use Rattle.laws.specs.Discs.{Halves, HalfWidth, half-width, half-small, root-low, root-most, root-small}
 use Rattle.laws.specs.Neighbours.{near-is}
 use Rattle.laws.specs.Tests.{bool-eq, or-l, or-r, or-out}
 use Rattle.words.specs.Words.{wordBit, Widened}
@@ -41,6 +42,19 @@ half-less q d p l = half-mono q d (d - 1) l (omega arith)
 
 pub half-max : (q d : ℕ) → q ≤ 1024 → halfWidth q d ≤ 32
 half-max = half-small
+
+-- the table of half-widths has them
+pub half-is : (q d : ℕ) (l : List ℕ) → Halves q l → d * d ≤ q → getD l d 0 ≡ halfWidth q d
+half-is q d l H h =
+    let A = H .half d h in
+    let B = half-width q d h in
+    elim (decLe (getD l d 0) (halfWidth q d)) [
+      | yes a ↦ elim (decLe (halfWidth q d) (getD l d 0)) [
+        | yes b ↦ omega arith
+        | no b ↦ absurd (omega (arith, A .outside (halfWidth q d) (omega arith), B .inside (halfWidth q d) (omega arith)))
+      ]
+      | no a ↦ absurd (omega (arith, B .outside (getD l d 0) (omega arith), A .inside (getD l d 0) (omega arith)))
+    ]
 
 pub before-in : (q d : ℕ) → d * d ≤ q → (d - 1) * (d - 1) ≤ q
 before-in q d l = let le : d - 1 ≤ d = omega arith in omega (arith, mul-le-mul le le)

@@ -1,66 +1,101 @@
-use mathlib.Core.Path.{_≡_}
+use mathlib.Core.Path.{_≡_, subst}
 use mathlib.Core.Bool.{not, _&&_, _||_}
-use Prim.Native.Nat.{_≤_, _-_}
-use lib.ListN.{length}
+use Prim.Native.Nat.{ℕ, _≤_, _-_}
+use lib.Bits.{bitAnd}
+use lib.ListN.{length, getD}
+use Rattle.image.specs.Bits.{or-none}
 use Rattle.image.specs.Filling.{Filling, filling-none, filling-more, filling-all}
 use Rattle.image.specs.Scratch.{bitOf}
-use Rattle.pair.specs.PairLaws.{support-byte}
+use Rattle.pair.specs.PairLaws.{NoneHangs, none-hangs, none-more, support-byte}
 use native.Mathlib.Omega.{arith}
 use borrow.Author.Needs.{needs}
 use Rattle.pair.proofs.support.Statement.{statement}
 use Rattle.pair.proofs.support.Tie as tie
+use Rattle.pair.proofs.support.Reads as reads
+use Rattle.pair.proofs.support.Lts as lts
 
 abbrev Inv-loop : tie.InvT-loop
-Inv-loop rest low above out₀ i₀ out i =
-    (i ≤ length out₀) × Filling 0 i (λ j. (bitOf rest j || bitOf above j) && not (bitOf low j)) out out₀
+Inv-loop up low above out₀ all₀ i₀ out all i = (i ≤ length out₀) × Filling 0 i (λ j. (bitOf up j || bitOf above j) && not (bitOf low j)) out out₀ × (all ≡ 0 → NoneHangs i low up)
 
 abbrev μ-loop : tie.MeasureT-loop
-μ-loop rest low above out₀ i₀ out i = length out₀ - i
+μ-loop up low above out₀ all₀ i₀ out all i = length out₀ - i
 
--- src/pair.rt:32:5
+-- src/lib.rt:38:5
 loop-holds : tie.Need-loop-holds Inv-loop μ-loop
-loop-holds c = (omega arith, filling-none _ _ _)
+loop-holds c = (omega arith, filling-none _ _ _, λ e k x m lm. absurd (omega arith))
 
--- src/pair.rt:33:19
+-- src/lib.rt:39:22
+shared-slice-read-all : tie.Need-shared-slice-read-all Inv-loop μ-loop
+shared-slice-read-all c = omega (arith, c .before .loop-test .taken, c .before .before .before .pre, c .before .before .loop .inv .1 .long)
+
+-- src/lib.rt:39:31
+shared-slice-read-all-2 : tie.Need-shared-slice-read-all-2 Inv-loop μ-loop
+shared-slice-read-all-2 c = omega (arith, c .before .before .loop-test .taken, c .before .before .before .before .pre, c .before .before .before .loop .inv .1 .long)
+
+-- src/lib.rt:40:19
 shared-slice-read-out : tie.Need-shared-slice-read-out Inv-loop μ-loop
-shared-slice-read-out c = omega (arith, c .before .loop-test .taken, c .before .before .before .pre, c .before .before .loop .inv .1 .long)
+shared-slice-read-out c = omega (arith, c .before .before .before .loop-test .taken, c .before .before .before .before .before .pre, c .before .before .before .before .loop .inv .1 .long)
 
--- src/pair.rt:33:29
+-- src/lib.rt:40:27
 shared-slice-read-out-2 : tie.Need-shared-slice-read-out-2 Inv-loop μ-loop
-shared-slice-read-out-2 c = omega (arith, c .before .before .loop-test .taken, c .before .before .before .before .pre, c .before .before .before .loop .inv .1 .long)
+shared-slice-read-out-2 c = omega (arith, c .before .before .before .before .loop-test .taken, c .before .before .before .before .before .before .pre, c .before .before .before .before .before .loop .inv .1 .long)
 
--- src/pair.rt:33:42
+-- src/lib.rt:40:40
 shared-slice-read-out-3 : tie.Need-shared-slice-read-out-3 Inv-loop μ-loop
-shared-slice-read-out-3 c = omega (arith, c .before .before .before .loop-test .taken, c .before .before .before .before .before .pre, c .before .before .before .before .loop .inv .1 .long)
+shared-slice-read-out-3 c = omega (arith, c .before .before .before .before .before .loop-test .taken, c .before .before .before .before .before .before .before .pre, c .before .before .before .before .before .before .loop .inv .1 .long)
 
--- src/pair.rt:32:5
+-- src/lib.rt:40:9
+slice-write-out : tie.Need-slice-write-out Inv-loop μ-loop
+slice-write-out c = search needs
+
+-- src/lib.rt:41:9
+add-i : tie.Need-add-i Inv-loop μ-loop
+add-i c = search needs
+
+-- src/lib.rt:38:5
 loop-less : tie.Need-loop-less Inv-loop μ-loop
-loop-less c = omega (arith, c .before .before .before .loop-test .taken, c .before .before .before .before .loop .inv .1 .long)
+loop-less c = omega (arith, c .before .before .before .before .before .loop-test .taken, c .before .before .before .before .before .before .loop .inv .1 .long)
 
--- src/pair.rt:32:5
+-- src/lib.rt:38:5
 loop-again : tie.Need-loop-again Inv-loop μ-loop
 loop-again c =
-    let A = c .before .before .before .before .before .args in
-    let L = c .before .before .before .before .loop in (
-      omega (arith, c .before .before .before .loop-test .taken, L .inv .1 .long),
-      filling-more 0 (L .i) _ (λ j. (bitOf (A .rest .now) j || bitOf (A .above .now) j) && not (bitOf (A .low .now) j)) (L .out) (A .out .now) (omega arith) (omega (arith, c .before .before .before .loop-test .taken)) (L .inv .1)
-          (support-byte (A .rest .now) (A .low .now) (A .above .now) (L .i) (c .shared-slice-known3 .given (L .i) .fits)),
+    let A = c .before .before .before .before .before .before .before .args in
+    let L = c .before .before .before .before .before .before .loop in (
+      omega (arith, c .before .before .before .before .before .loop-test .taken, L .inv .1 .long),
+      filling-more 0 (L .i) _ (λ j. (bitOf (A .up .now) j || bitOf (A .above .now) j) && not (bitOf (A .low .now) j)) (L .out) (A .out .now) (omega arith) (omega (arith, c .before .before .before .before .before .loop-test .taken)) (L .inv .1)
+          (support-byte (A .up .now) (A .low .now) (A .above .now) (L .i) (c .shared-slice-known5 .given (L .i) .fits)),
+      λ e. let o = or-none (L .all) (bitAnd (getD (A .up .now) (L .i) 0) (255 - getD (A .low .now) (L .i) 0)) e in
+          none-more (A .low .now) (A .up .now) (L .i) (c .before .before .before .shared-slice-known2 .given (L .i) .fits) (o .1) (L .inv .2 (o .0)),
     )
 
--- src/pair.rt:27:1
+-- src/lib.rt:31:1
 same-length : tie.Need-same-length Inv-loop μ-loop
 same-length c = c .before .loop .inv .1 .long
 
--- src/pair.rt:27:1
+-- src/lib.rt:31:1
 returns : tie.Need-returns Inv-loop μ-loop
 returns c =
+    let A = c .before .before .args in
     let L = c .before .loop in
-    let e : L .i ≡ length (c .before .before .args .out .now) = omega (arith, c .loop-test .left, L .inv .0, L .inv .1 .long) in
+    let e : L .i ≡ length (A .out .now) = omega (arith, c .loop-test .left, L .inv .0, L .inv .1 .long) in
     let W = filling-all _ _ _ _ _ (rw e at (L .inv .1)) in
-    λ j lj. W .inner j (omega arith) lj
+    (λ j lj. W .inner j (omega arith) lj, none-hangs (A .low .now) (A .up .now) (length (A .low .now)) (L .all) (λ z. subst (λ (n : ℕ). NoneHangs n (A .low .now) (A .up .now)) (omega (arith, e, c .before .before .pre)) (L .inv .2 z)))
 
 pub support-spec : {M : Type 1} → statement M
 support-spec =
     tie.close
-    (tie.spec Inv-loop μ-loop loop-holds shared-slice-read-out shared-slice-read-out-2 shared-slice-read-out-3 (λ c. search needs)
-    (λ c. search needs) loop-less loop-again same-length returns)
+    (tie.spec
+    Inv-loop
+    μ-loop
+    loop-holds
+    shared-slice-read-all
+    shared-slice-read-all-2
+    shared-slice-read-out
+    shared-slice-read-out-2
+    shared-slice-read-out-3
+    slice-write-out
+    add-i
+    loop-less
+    loop-again
+    same-length
+    returns)

@@ -1,0 +1,68 @@
+use mathlib.Core.Path.{_≡_, refl, sym, _∙_}
+use Prim.Native.Nat.{_+_, _-_, _≤_}
+use lib.ListN.{length}
+use Rattle.waves.specs.Rows.{Upto}
+use Rattle.rings.specs.Landing.{nearBits}
+use Rattle.rings.specs.FarLaws.{drop-start, drop-more, drop-all, near-mid}
+use native.Mathlib.Omega.{arith}
+use borrow.Author.Needs.{needs}
+use Rattle.rings.proofs.far.drop_rows.Statement.{statement}
+use Rattle.rings.proofs.far.drop_rows.Tie as tie
+
+abbrev Inv-loop : tie.InvT-loop
+Inv-loop low left₀ ahead half w h q reach y₀ left y = (y ≤ h) × (length left ≡ length left₀) × Upto y (nearBits w h (q .0) low left₀) left₀ left
+
+abbrev μ-loop : tie.MeasureT-loop
+μ-loop low left₀ ahead half w h q reach y₀ left y = h - y
+
+-- src/far.rt:44:17
+shared-slice-read-y : tie.Need-shared-slice-read-y Inv-loop μ-loop
+shared-slice-read-y c = omega (arith, c .before .before .before .before .before .pre .1 .long)
+
+-- src/far.rt:45:5
+loop-holds : tie.Need-loop-holds Inv-loop μ-loop
+loop-holds c = (c .before .before .before .before .before .pre .1 .on 0 (omega arith) .1, refl, drop-start _ _ _ _ _ _ (c .before .before .before .before .before .pre .0) (c .before .before .before .before .before .pre .3))
+
+-- src/far.rt:46:9
+drop-row-requires : tie.Need-drop-row-requires Inv-loop μ-loop
+drop-row-requires c κs = (c .before .before .before .before .before .before .before .before .pre .2 .long, c .before .before .loop .inv .1 ∙ c .before .before .before .before .before .before .before .before .pre .3 .ready .long, omega (arith, c .before .before .before .before .before .before .before .before .pre .0 .h-max), c .before .before .before .before .before .before .before .before .pre .4, c .before .before .before .before .before .before .before .before .pre .5, c .before .before .before .before .before .before .before .before .pre .6)
+
+-- src/far.rt:47:19
+add-y : tie.Need-add-y Inv-loop μ-loop
+add-y c = omega (arith, c .before .before .before .before .before .before .before .before .before .before .before .pre .0 .h-max)
+
+-- src/far.rt:47:13
+mul-y : tie.Need-mul-y Inv-loop μ-loop
+mul-y c = omega (arith, c .before .before .before .before .before .before .before .before .before .before .before .pre .0 .h-max)
+
+-- src/far.rt:47:13
+shared-slice-read-y-2 : tie.Need-shared-slice-read-y-2 Inv-loop μ-loop
+shared-slice-read-y-2 c = omega (arith, c .before .before .before .before .before .before .before .before .before .before .before .before .pre .1 .long, c .before .before .before .before .before .before .before .before .before .before .before .before .pre .0 .h-max)
+
+-- src/far.rt:45:5
+loop-less : tie.Need-loop-less Inv-loop μ-loop
+loop-less c = omega (arith, c .before .before .before .before .before .before .before .before .before .before .before .before .pre .1 .on (c .before .before .before .before .before .before .loop .y + 1) (omega arith))
+
+-- src/far.rt:45:5
+loop-again : tie.Need-loop-again Inv-loop μ-loop
+loop-again c =
+    let n = c .before .before .before .before .before .before .before .before .before .before .before .before .pre .1 .on (c .before .before .before .before .before .before .loop .y + 1) (omega arith) in (
+      n .1,
+      c .before .before .before .drop-row .kept .1 .0 ∙ c .before .before .before .before .before .before .loop .inv .1,
+      drop-more _ _ _ _ _ _ (c .before .before .before .before .before .before .before .before .before .before .before .before .pre .0) (c .before .before .before .before .before .before .before .before .before .before .before .before .pre .3) _ _ _ _ (omega arith) (omega arith) refl
+          (c .before .before .before .drop-row .ensures _ _ (c .before .before .before .before .before .before .before .before .before .before .before .before .pre .0) (c .before .before .before .before .before .before .before .before .before .before .before .before .pre .2 .framed) (near-mid _ _ _ _ _ _ _ (c .before .before .before .before .before .before .before .before .before .before .before .before .pre .3 .ready .framed) (c .before .before .before .before .before .before .loop .inv .2)) (omega arith)) (c .before .before .before .before .before .before .loop .inv .2),
+    )
+
+-- src/far.rt:40:1
+same-length : tie.Need-same-length Inv-loop μ-loop
+same-length c = c .before .loop .inv .1
+
+-- src/far.rt:40:1
+returns : tie.Need-returns Inv-loop μ-loop
+returns c = drop-all _ _ _ _ _ _ (c .before .before .before .before .before .before .before .pre .0) (c .before .before .before .before .before .before .before .pre .3) _ _ (omega arith) (c .before .loop .inv .2)
+
+pub drop-rows-spec : {M : Type 1} → statement M
+drop-rows-spec =
+    tie.close
+    (tie.spec Inv-loop μ-loop shared-slice-read-y loop-holds drop-row-requires add-y mul-y shared-slice-read-y-2 loop-less loop-again
+    same-length returns)
