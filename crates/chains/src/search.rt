@@ -49,6 +49,7 @@ fn in_row(
     above: &[u8],
     rings: &[u16],
     disc: &[u64],
+    halves: &[usize],
     w: usize,
     h: usize,
     r: usize,
@@ -57,10 +58,11 @@ fn in_row(
 ) -> usize
     requires fits { ⌜ (Sized w h × (r < h)) × (q .0 ≤ 1024) ⌝ }
     requires planes { ⌜ Planes w h (now low) (now up) (now below) (now above) (now rings) × Drawn w h (packed w (now low)) (now disc) ⌝ }
+    requires table { ⌜ Halves (q .0) (now halves) ⌝ }
     ensures { λ s. ⌜ Least 0 w (λ c. amissHere ringed w h (q .0) (now (low .entry)) (now (up .entry)) (now (below .entry)) (now (above .entry)) (now (rings .entry)) (r * w + c)) s ⌝ }
 {
     let mut close = [0u64; 4];
-    words::rows::put(&mut close, 0, planes::nearness::near_row(disc, r, q));
+    words::rows::put(&mut close, 0, quick::near::near_row(disc, halves, r, q));
     in_columns(low, up, below, above, rings, &close, w, h, r, ringed)
 }
 
@@ -72,6 +74,7 @@ fn in_rows(
     above: &[u8],
     rings: &[u16],
     disc: &[u64],
+    halves: &[usize],
     w: usize,
     h: usize,
     q: Bound,
@@ -79,12 +82,26 @@ fn in_rows(
 ) -> usize
     requires fits { ⌜ Sized w h × (q .0 ≤ 1024) ⌝ }
     requires planes { ⌜ Planes w h (now low) (now up) (now below) (now above) (now rings) × Drawn w h (packed w (now low)) (now disc) ⌝ }
+    requires table { ⌜ Halves (q .0) (now halves) ⌝ }
     ensures { λ s. ⌜ Least 0 (h * w) (amissHere ringed w h (q .0) (now (low .entry)) (now (up .entry)) (now (below .entry)) (now (above .entry)) (now (rings .entry))) s ⌝ }
 {
     let mut x = 0;
     let mut r = 0;
     while r < h {
-        let c = in_row(low, up, below, above, rings, disc, w, h, r, q, ringed);
+        let c = in_row(
+            low,
+            up,
+            below,
+            above,
+            rings,
+            disc,
+            halves,
+            w,
+            h,
+            r,
+            q,
+            ringed,
+        );
         if c < w {
             return x + c;
         }
@@ -125,7 +142,7 @@ fn in_pair(
     }
     let mut disc = [0u64; 1610];
     quick::layers::read(low, &mut disc, w, h);
-    in_rows(low, up, below, above, rings, &disc, w, h, q, ringed)
+    in_rows(low, up, below, above, rings, &disc, halves, w, h, q, ringed)
 }
 
 // The first of the stack, pair by pair.

@@ -20,10 +20,7 @@ fn further(low: &[u64], k: usize, x: Row, half: &[usize], q: Bound, d: usize) ->
 {
     let by = half[d - 1] - half[d];
     let wide = words::rows::widen(x, Pixels(by));
-    let beside = words::rows::either(
-        crate::rows::row(low, k - d),
-        crate::rows::row(low, k + d),
-    );
+    let beside = words::rows::either(crate::rows::row(low, k - d), crate::rows::row(low, k + d));
     words::rows::either(wide, beside)
 }
 

@@ -27,7 +27,7 @@ read-requires c κs = (c .before .before .before .before .before .before .before
 
 -- src/search.rt:126:5
 in-rows-requires : tie.Need-in-rows-requires
-in-rows-requires c κs = ((c .before .before .before .before .before .before .before .before .before .before .before .before .before .before .pre .0 .0 .0, c .before .before .before .before .before .before .before .before .before .before .before .before .before .before .pre .0 .0 .1 .1), (c .before .before .before .before .before .before .before .before .before .before .before .before .before .before .pre .1 .0, c .before .before .read .ensures))
+in-rows-requires c κs = ((c .before .before .before .before .before .before .before .before .before .before .before .before .before .before .pre .0 .0 .0, c .before .before .before .before .before .before .before .before .before .before .before .before .before .before .pre .0 .0 .1 .1), ((c .before .before .before .before .before .before .before .before .before .before .before .before .before .before .pre .1 .0, c .before .before .read .ensures), c .before .before .before .before .before .before .before .before .before .before .before .before .before .before .pre .1 .1 .1))
 
 -- src/search.rt:103:1
 returns-2 : tie.Need-returns-2
