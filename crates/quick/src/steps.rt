@@ -82,11 +82,15 @@ pub fn pixels(
     let mut k = from;
     while k < to {
         let v = rings[at + k];
-        if !good(rings, w, h, r, x, k, v, free, first) {
-            return Told { good: false, got };
+        if v == 0 {
+            k += 1;
+        } else {
+            if !good(rings, w, h, r, x, k, v, free, first) {
+                return Told { good: false, got };
+            }
+            got = got | crate::bits::alone(v, k);
+            k += 1;
         }
-        got = got | crate::bits::alone(v, k);
-        k += 1;
     }
     Told { good: true, got }
 }
