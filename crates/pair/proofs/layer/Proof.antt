@@ -8,27 +8,6 @@ use native.Mathlib.Omega.{arith}
 use borrow.Author.Needs.{needs}
 use Rattle.pair.proofs.layer.Statement.{statement}
 use Rattle.pair.proofs.layer.Tie as tie
-use Rattle.pair.proofs.layer.Reads as reads
-use Rattle.pair.proofs.layer.Lts as lts
-use Rattle.pair.proofs.hanging.Reads as hanging-reads
-use Rattle.pair.proofs.support.Reads as support-reads
-use Rattle.pair.proofs.zero.Reads as zero-reads
-
--- src/lib.rt:119:5
-zero-requires : tie.Need-zero-requires
-zero-requires c κs = search needs
-
--- src/lib.rt:120:9
-support-requires : tie.Need-support-requires
-support-requires c κs = search needs
-
--- src/lib.rt:121:9
-same-length : tie.Need-same-length
-same-length c = search needs
-
--- src/lib.rt:121:9
-same-length-2 : tie.Need-same-length-2
-same-length-2 c = search needs
 
 -- src/lib.rt:121:9
 returns : tie.Need-returns
@@ -46,40 +25,8 @@ hanging-requires c κs =
     (c .before .before .before .before .before .before .before .before .before .before .before .before .before .before .before .before .before .before .before .before .before .before .before .before .before .before .before .before .before .before .pre .0, ((C .0, C .1, c .before .before .before .before .before .before .before .before .before .before .before .before .support .kept .1 .1 .1 .0 ∙ C .3, c .before .before .before .before .before .before .before .before .before .before .before .before .before .before .before .before .zero .kept .0 ∙ C .4, λ p l. c .before .before .before .before .before .before .before .before .before .before .before .before .before .before .before .before .zero .ensures p (omega (arith, C .4))), c .before .before .before .before .before .before .before .before .before .before .before .before .before .before .before .before .before .before .before .before .before .before .before .before .before .before .before .before .before .before .pre .1 .1 .1))
 
 -- src/lib.rt:93:1
-same-length-3 : tie.Need-same-length-3
-same-length-3 c = search needs
-
--- src/lib.rt:93:1
 same-length-4 : tie.Need-same-length-4
 same-length-4 c = c .before .before .before .before .before .before .before .before .before .before .before .before .before .before .before .before .before .before .hanging .kept .1 .1 .1 .0 ∙ c .before .before .before .before .before .before .before .before .before .before .before .before .before .before .before .before .before .before .before .before .before .before .before .before .before .before .before .before .before .before .before .before .before .before .before .zero .kept .0
-
--- src/lib.rt:93:1
-same-length-5 : tie.Need-same-length-5
-same-length-5 c = search needs
-
--- src/lib.rt:93:1
-same-length-6 : tie.Need-same-length-6
-same-length-6 c = search needs
-
--- src/lib.rt:93:1
-same-length-7 : tie.Need-same-length-7
-same-length-7 c = search needs
-
--- src/lib.rt:93:1
-same-length-8 : tie.Need-same-length-8
-same-length-8 c = search needs
-
--- src/lib.rt:93:1
-same-length-9 : tie.Need-same-length-9
-same-length-9 c = search needs
-
--- src/lib.rt:93:1
-same-length-10 : tie.Need-same-length-10
-same-length-10 c = search needs
-
--- src/lib.rt:93:1
-same-length-11 : tie.Need-same-length-11
-same-length-11 c = search needs
 
 -- src/lib.rt:93:1
 returns-2 : tie.Need-returns-2
@@ -92,20 +39,6 @@ returns-2 c =
 pub layer-spec : {M : Type 1} → statement M
 layer-spec =
     tie.close
-    (tie.spec
-    zero-requires
-    support-requires
-    same-length
-    same-length-2
-    returns
-    hanging-requires
-    same-length-3
-    same-length-4
-    same-length-5
-    same-length-6
-    same-length-7
-    same-length-8
-    same-length-9
-    same-length-10
-    same-length-11
-    returns-2)
+    (tie.spec (λ c κs. search needs) (λ c κs. search needs) (λ c. search needs) (λ c. search needs) returns hanging-requires
+    (λ c. search needs) same-length-4 (λ c. search needs) (λ c. search needs) (λ c. search needs) (λ c. search needs) (λ c. search needs)
+    (λ c. search needs) (λ c. search needs) returns-2)

@@ -11,8 +11,6 @@ use native.Mathlib.Omega.{arith}
 use borrow.Author.Needs.{needs}
 use Rattle.pair.proofs.support.Statement.{statement}
 use Rattle.pair.proofs.support.Tie as tie
-use Rattle.pair.proofs.support.Reads as reads
-use Rattle.pair.proofs.support.Lts as lts
 
 abbrev Inv-loop : tie.InvT-loop
 Inv-loop up low above out₀ all₀ i₀ out all i = (i ≤ length out₀) × Filling 0 i (λ j. (bitOf up j || bitOf above j) && not (bitOf low j)) out out₀ × (all ≡ 0 → NoneHangs i low up)
@@ -43,14 +41,6 @@ shared-slice-read-out-2 c = omega (arith, c .before .before .before .before .loo
 -- src/lib.rt:40:40
 shared-slice-read-out-3 : tie.Need-shared-slice-read-out-3 Inv-loop μ-loop
 shared-slice-read-out-3 c = omega (arith, c .before .before .before .before .before .loop-test .taken, c .before .before .before .before .before .before .before .pre, c .before .before .before .before .before .before .loop .inv .1 .long)
-
--- src/lib.rt:40:9
-slice-write-out : tie.Need-slice-write-out Inv-loop μ-loop
-slice-write-out c = search needs
-
--- src/lib.rt:41:9
-add-i : tie.Need-add-i Inv-loop μ-loop
-add-i c = search needs
 
 -- src/lib.rt:38:5
 loop-less : tie.Need-loop-less Inv-loop μ-loop
@@ -84,18 +74,5 @@ returns c =
 pub support-spec : {M : Type 1} → statement M
 support-spec =
     tie.close
-    (tie.spec
-    Inv-loop
-    μ-loop
-    loop-holds
-    shared-slice-read-all
-    shared-slice-read-all-2
-    shared-slice-read-out
-    shared-slice-read-out-2
-    shared-slice-read-out-3
-    slice-write-out
-    add-i
-    loop-less
-    loop-again
-    same-length
-    returns)
+    (tie.spec Inv-loop μ-loop loop-holds shared-slice-read-all shared-slice-read-all-2 shared-slice-read-out shared-slice-read-out-2
+    shared-slice-read-out-3 (λ c. search needs) (λ c. search needs) loop-less loop-again same-length returns)

@@ -8,27 +8,10 @@ use native.Mathlib.Omega.{arith}
 use borrow.Author.Needs.{needs}
 use Rattle.planes.proofs.nearness.further.Statement.{statement}
 use Rattle.planes.proofs.nearness.further.Tie as tie
-use Rattle.planes.proofs.nearness.further.Reads as reads
-use Rattle.planes.proofs.nearness.further.Lts as lts
-use Rattle.planes.proofs.rows.row.Reads as row-reads
-use Rattle.words.proofs.rows.either.Reads as either-reads
-use Rattle.words.proofs.rows.widen.Reads as widen-reads
-
--- src/nearness.rt:21:19
-sub-by : tie.Need-sub-by
-sub-by c = search needs
-
--- src/nearness.rt:21:14
-mul-by : tie.Need-mul-by
-mul-by c = search needs
 
 -- src/nearness.rt:21:14
 shared-slice-read-by : tie.Need-shared-slice-read-by
 shared-slice-read-by c = omega (arith, c .before .before .before .pre .7 .long, c .before .before .before .pre .4)
-
--- src/nearness.rt:21:28
-mul-by-2 : tie.Need-mul-by-2
-mul-by-2 c = search needs
 
 -- src/nearness.rt:21:28
 shared-slice-read-by-2 : tie.Need-shared-slice-read-by-2
@@ -42,30 +25,6 @@ sub-by-2 c = omega (arith, half-is _ _ _ (c .before .before .before .before .pre
 widen-requires : tie.Need-widen-requires
 widen-requires c κs = omega (arith, half-is _ _ _ (c .before .before .before .before .pre .7) (before-in _ _ (c .before .before .before .before .pre .5)), half-max (c .before .before .before .before .args .q .0) (c .before .before .before .before .args .d - 1) (c .before .before .before .before .pre .6))
 
--- src/nearness.rt:24:31
-sub-row : tie.Need-sub-row
-sub-row c = search needs
-
--- src/nearness.rt:24:9
-row-requires : tie.Need-row-requires
-row-requires c κs = search needs
-
--- src/nearness.rt:25:31
-add-row : tie.Need-add-row
-add-row c = search needs
-
--- src/nearness.rt:25:9
-row-requires-2 : tie.Need-row-requires-2
-row-requires-2 c κs = search needs
-
--- src/nearness.rt:23:9
-either-requires : tie.Need-either-requires
-either-requires c κs = search needs
-
--- src/nearness.rt:27:5
-either-requires-2 : tie.Need-either-requires-2
-either-requires-2 c κs = search needs
-
 -- src/nearness.rt:17:1
 returns : tie.Need-returns
 returns c = λ N. near-more _ _ _ _ _ _ _ _ _ _ (c .before .before .before .before .before .before .before .before .before .pre .3) (omega (arith, c .before .before .before .before .before .before .before .before .before .pre .2, c .before .before .before .before .before .before .before .before .before .pre .4)) (c .before .before .before .before .before .before .before .before .before .pre .5) N (rw (half-is _ _ _ (c .before .before .before .before .before .before .before .before .before .pre .7) (before-in _ _ (c .before .before .before .before .before .before .before .before .before .pre .5)), half-is _ _ _ (c .before .before .before .before .before .before .before .before .before .pre .7) (c .before .before .before .before .before .before .before .before .before .pre .5)) at (c .before .before .before .before .widen .ensures)) (λ c' e. column-in _ c' e) (c .before .before .before .row .ensures) (c .before .before .row2 .ensures) (c .before .either .ensures) (c .either2 .ensures)
@@ -73,18 +32,6 @@ returns c = λ N. near-more _ _ _ _ _ _ _ _ _ _ (c .before .before .before .befo
 pub further-spec : {M : Type 1} → statement M
 further-spec =
     tie.close
-    (tie.spec
-    sub-by
-    mul-by
-    shared-slice-read-by
-    mul-by-2
-    shared-slice-read-by-2
-    sub-by-2
-    widen-requires
-    sub-row
-    row-requires
-    add-row
-    row-requires-2
-    either-requires
-    either-requires-2
-    returns)
+    (tie.spec (λ c. search needs) (λ c. search needs) shared-slice-read-by (λ c. search needs) shared-slice-read-by-2 sub-by-2
+    widen-requires (λ c. search needs) (λ c κs. search needs) (λ c. search needs) (λ c κs. search needs) (λ c κs. search needs)
+    (λ c κs. search needs) returns)

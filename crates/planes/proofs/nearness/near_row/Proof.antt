@@ -9,25 +9,12 @@ use native.Mathlib.Omega.{arith}
 use borrow.Author.Needs.{needs}
 use Rattle.planes.proofs.nearness.near_row.Statement.{statement}
 use Rattle.planes.proofs.nearness.near_row.Tie as tie
-use Rattle.planes.proofs.nearness.near_row.Reads as reads
-use Rattle.planes.proofs.nearness.near_row.Lts as lts
-use Rattle.planes.proofs.nearness.further.Reads as further-reads
-use Rattle.planes.proofs.rows.row.Reads as row-reads
-use Rattle.words.proofs.rows.widen.Reads as widen-reads
 
 abbrev Inv-loop : tie.InvT-loop
 Inv-loop low y half q reach k x₀ d₀ x d = (d ≤ reach) × (reach ≡ root (q .0)) × NearTo (q .0) (y + 33) d (halfWidth (q .0) d) low (column x)
 
 abbrev μ-loop : tie.MeasureT-loop
 μ-loop low y half q reach k x₀ d₀ x d = reach - d
-
--- src/nearness.rt:36:13
-add-k : tie.Need-add-k Inv-loop μ-loop
-add-k c = search needs
-
--- src/nearness.rt:37:9
-row-requires : tie.Need-row-requires Inv-loop μ-loop
-row-requires c κs = search needs
 
 -- src/nearness.rt:39:5
 loop-holds : tie.Need-loop-holds Inv-loop μ-loop
@@ -73,17 +60,5 @@ returns c =
 pub near-row-spec : {M : Type 1} → statement M
 near-row-spec =
     tie.close
-    (tie.spec
-    Inv-loop
-    μ-loop
-    add-k
-    row-requires
-    loop-holds
-    add-d
-    further-requires
-    loop-less
-    loop-again
-    mul-t10
-    shared-slice-read-t12
-    widen-requires
-    returns)
+    (tie.spec Inv-loop μ-loop (λ c. search needs) (λ c κs. search needs) loop-holds add-d further-requires loop-less loop-again mul-t10
+    shared-slice-read-t12 widen-requires returns)
