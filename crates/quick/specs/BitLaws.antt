@@ -1,18 +1,19 @@
 -- Laws of the bits of a word.
 use mathlib.Core.Path.{_≡_, refl, sym, ap, _∙_}
 use mathlib.Core.Bool.{Bool, true, false, not, _&&_, _||_}
-use mathlib.Core.Logic.{_⊎_, inl, inr, ⊎-elim}
 use mathlib.Core.List.{List}
 use Prim.Native.Nat.{ℕ, zero, suc, _+_, _-_, _*_, _/_, _%_, _^_, _<_, _≤_}
 use native.Mathlib.Nat.{mod-lt}
 use native.Mathlib.Omega.{arith}
 use native.Mathlib.Decide.{decLt, ℕ-discrete}
+use borrow.Author.Tests.{lt-ltb, eqb-true, eqb-false}
 use lib.Bits.{bitAnd, bitOr}
+use lib.Dec.{eqb}
 use lib.ListN.{getD}
 use lib.Pow.{shl-exact, shl-shr, pow-pos, pow-lt, low}
 use Rattle.rules.specs.Images.{bitAt}
-use Rattle.laws.specs.Tests.{split, clash, and-l, and-r, and-in, not-out}
-use Rattle.words.specs.Words.{place, bitOfWord, flat, wordBit}
+use Rattle.laws.specs.Tests.{split, clash, and-in}
+use Rattle.words.specs.Words.{Digits, place, bitOfWord, flat, wordBit, rowAt}
 use Rattle.words.specs.Digits.{place-shr, place-mod-below, place-small, place-zero, place-and, place-or, place-not}
 
 -- the bit of a list of words
@@ -24,6 +25,11 @@ pub bit-at : (l : List ℕ) (c : ℕ) → wordBit l c ≡ bitOfWord (getD l (c /
 unfolding flat bitOfWord
 bit-at l c = refl
 
+-- the row at the start of a list
+pub row-start : (l : List ℕ) (c : ℕ) → c < 256 → rowAt l 0 c ≡ wordBit l c
+unfolding rowAt
+row-start l c h = let z : 0 * 64 + c ≡ c = omega arith in rw (lt-ltb c 256 h, z)
+
 pub bit-or : (x y k : ℕ) → bitOfWord (bitOr x y) k ≡ (bitOfWord x k || bitOfWord y k)
 unfolding bitOfWord
 bit-or x y k = place-or x y (63 - k)
@@ -32,26 +38,10 @@ pub bit-zero : (k : ℕ) → bitOfWord 0 k ≡ false
 unfolding bitOfWord
 bit-zero k = place-zero (63 - k)
 
-or-either : (a b : Bool) → (a || b) ≡ true → (a ≡ true) ⊎ (b ≡ true)
-or-either true b e = inl refl
-or-either false b e = inr e
-
-pub or-out : (x y k : ℕ) → bitOfWord (bitOr x y) k ≡ true → (bitOfWord x k ≡ true) ⊎ (bitOfWord y k ≡ true)
-or-out x y k e = or-either (bitOfWord x k) (bitOfWord y k) (sym (bit-or x y k) ∙ e)
-
 -- one bit alone
-alone-place : (s e : ℕ) → (e ≡ s → ⊥) → place (1 * 2 ^ s) e ≡ false
-alone-place s e ne = elim (decLt s e) [
-  | yes l ↦ place-small (1 * 2 ^ s) e (omega (arith, pow-lt {i = s} {j = e} l))
-  | no l ↦ sym (place-mod-below (1 * 2 ^ s) s e (omega arith)) ∙ ap (λ (v : ℕ). place v e) (let z : 1 * 2 ^ s ≡ 1 * 2 ^ s + 0 = omega arith in rw z (low 1 s (pow-pos s))) ∙ place-zero e
-]
-
-pub alone-bit : (k j : ℕ) → k < 64 → j < 64 → bitOfWord (1 * 2 ^ (63 - k) % 2 ^ 64) j ≡ true → j ≡ k
+pub one-alone : (x k j : ℕ) → Digits 64 x 0 (λ i. eqb i (0 + k)) → j < 64 → bitOfWord x j ≡ eqb j k
 unfolding bitOfWord
-alone-bit k j lk lj e = elim (ℕ-discrete j k) [
-  | yes q ↦ q
-  | no q ↦ clash e (ap (λ (v : ℕ). place v (63 - j)) (shl-exact {a = 1} 1 (63 - k) 64 (omega arith) (omega arith)) ∙ alone-place (63 - k) (63 - j) (λ z. q (omega arith)))
-]
+one-alone x k j D l = let a : 0 + j ≡ j = omega arith in let b : 0 + k ≡ k = omega arith in rw (a, b) at (D .bits (63 - j) j (omega arith))
 
 -- the byte of a word
 pub byte-bit : (x b j : ℕ) → b < 8 → j < 8 → bitAt (x / 2 ^ (56 - 8 * b) % 2 ^ 8) j ≡ bitOfWord x (8 * b + j)
@@ -61,28 +51,46 @@ byte-bit x b j lb lj =
     place-mod-below (x / 2 ^ (56 - 8 * b)) 8 (7 - j) (omega arith) ∙ place-shr x (56 - 8 * b) (7 - j) ∙ rw z
 
 -- the bits of byte b
-mask-bit : (b k : ℕ) → b < 8 → 8 * b ≤ k → k < 8 * b + 8 → bitOfWord (255 * 2 ^ (56 - 8 * b) % 2 ^ 64) k ≡ true
+mask-place : (s i : ℕ) → place (255 * 2 ^ s) (s + i) ≡ place 255 i
+mask-place s i = sym (place-shr (255 * 2 ^ s) s i) ∙ ap (λ (v : ℕ). place v i) (shl-shr 255 s)
+
+ones-behind : (i : ℕ) → 8 ≤ i → place 255 i ≡ false
+ones-behind i l = elim (ℕ-discrete i 8) [
+  | yes e ↦ rw e (place-small 255 8 (omega arith))
+  | no e ↦ place-small 255 i (let p : 2 ^ 8 < 2 ^ i = pow-lt {i = 8} {j = i} (omega arith) in omega arith)
+]
+
+mask-in : (s k : ℕ) → s + k ≤ 63 → 56 ≤ s + k → place (255 * 2 ^ s) (63 - k) ≡ true
+mask-in s k hi lo = let z : 63 - k ≡ s + (63 - k - s) = omega arith in rw z (mask-place s (63 - k - s) ∙ place-not 8 0 (63 - k - s) (omega arith) (omega arith) ∙ ap not (place-zero (63 - k - s)))
+
+mask-before : (s k : ℕ) → s + k < 56 → place (255 * 2 ^ s) (63 - k) ≡ false
+mask-before s k l = let z : 63 - k ≡ s + (63 - k - s) = omega arith in rw z (mask-place s (63 - k - s) ∙ ones-behind (63 - k - s) (omega arith))
+
+mask-behind : (s k : ℕ) → k < 64 → 63 < s + k → place (255 * 2 ^ s) (63 - k) ≡ false
+mask-behind s k lk l = sym (place-mod-below (255 * 2 ^ s) s (63 - k) (omega arith))
+    ∙ ap (λ (v : ℕ). place v (63 - k)) (let z : 255 * 2 ^ s ≡ 255 * 2 ^ s + 0 = omega arith in rw z (low 255 s (pow-pos s)))
+    ∙ place-zero (63 - k)
+
+mask-bit : (b k : ℕ) → b < 8 → k < 64 → bitOfWord (255 * 2 ^ (56 - 8 * b) % 2 ^ 64) k ≡ eqb (k / 8) b
 unfolding bitOfWord
-mask-bit b k lb lo hi =
-    let s : ℕ = 56 - 8 * b in
-    let i : ℕ = 8 * b + 7 - k in
-    let z : 63 - k ≡ s + i = omega arith in
-    ap (λ (v : ℕ). place v (63 - k)) (shl-exact {a = 255} 8 s 64 (omega arith) (omega arith))
-    ∙ rw z (sym (place-shr (255 * 2 ^ s) s i))
-    ∙ ap (λ (v : ℕ). place v i) (shl-shr 255 s)
-    ∙ place-not 8 0 i (omega arith) (omega arith)
-    ∙ ap not (place-zero i)
+mask-bit b k lb lk =
+    ap (λ (v : ℕ). place v (63 - k)) (shl-exact {a = 255} 8 (56 - 8 * b) 64 (omega arith) (omega arith))
+    ∙ split (eqb (k / 8) b)
+    (λ t. let e : k / 8 ≡ b = eqb-true (k / 8) b t in mask-in (56 - 8 * b) k (omega arith) (omega arith) ∙ sym t)
+    (λ t. let n : k / 8 ≡ b → ⊥ = eqb-false (k / 8) b t in elim (decLt k (8 * b)) [
+      | yes l ↦ mask-before (56 - 8 * b) k (omega arith) ∙ sym t
+      | no l ↦ mask-behind (56 - 8 * b) k lk (omega (arith, n)) ∙ sym t
+    ])
 
 but-not-bit : (x y k : ℕ) → y < 2 ^ 64 → k < 64 → bitOfWord (bitAnd x (2 ^ 64 - 1 - y)) k ≡ (bitOfWord x k && not (bitOfWord y k))
 unfolding bitOfWord
 but-not-bit x y k ly lk = place-and x (2 ^ 64 - 1 - y) (63 - k) ∙ ap (λ (b : Bool). place x (63 - k) && b) (place-not 64 y (63 - k) ly (omega arith))
 
-pub patched-bit : (x y b k : ℕ) → b < 8 → k < 64 → bitOfWord (bitOr (bitAnd x (2 ^ 64 - 1 - 255 * 2 ^ (56 - 8 * b) % 2 ^ 64)) y) k ≡ true
-    → (bitOfWord y k ≡ true) ⊎ ((bitOfWord x k ≡ true) × (8 * b ≤ k → k < 8 * b + 8 → ⊥))
-patched-bit x y b k lb lk e = ⊎-elim (λ u.
-    let v : (bitOfWord x k && not (bitOfWord (255 * 2 ^ (56 - 8 * b) % 2 ^ 64) k)) ≡ true = sym (but-not-bit x (255 * 2 ^ (56 - 8 * b) % 2 ^ 64) k (mod-lt (255 * 2 ^ (56 - 8 * b)) (omega arith)) lk) ∙ u in
-    inr (and-l (bitOfWord x k) _ v, λ lo hi. clash (mask-bit b k lb lo hi) (not-out (bitOfWord (255 * 2 ^ (56 - 8 * b) % 2 ^ 64) k) (and-r (bitOfWord x k) _ v))))
-    inl (or-out (bitAnd x (2 ^ 64 - 1 - 255 * 2 ^ (56 - 8 * b) % 2 ^ 64)) y k e)
+pub patched-bit : (x y b k : ℕ) → b < 8 → k < 64 → bitOfWord (bitOr (bitAnd x (2 ^ 64 - 1 - 255 * 2 ^ (56 - 8 * b) % 2 ^ 64)) y) k ≡ ((bitOfWord x k && not (eqb (k / 8) b)) || bitOfWord y k)
+patched-bit x y b k lb lk =
+    bit-or (bitAnd x (2 ^ 64 - 1 - 255 * 2 ^ (56 - 8 * b) % 2 ^ 64)) y k
+    ∙ ap (λ (a : Bool). a || bitOfWord y k) (but-not-bit x (255 * 2 ^ (56 - 8 * b) % 2 ^ 64) k (mod-lt (255 * 2 ^ (56 - 8 * b)) (omega arith)) lk
+    ∙ ap (λ (m : Bool). bitOfWord x k && not m) (mask-bit b k lb lk))
 
 -- what is in x is in y
 pub covered-bit : (x y k : ℕ) → y < 2 ^ 64 → k < 64 → bitAnd x (2 ^ 64 - 1 - y) ≡ 0 → bitOfWord x k ≡ true → bitOfWord y k ≡ true

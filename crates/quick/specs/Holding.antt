@@ -24,33 +24,11 @@ use Rattle.words.specs.WordLaws.{whole-row, first-word}
 use Rattle.places.specs.Search.{unheldHere}
 use Rattle.places.specs.Planes.{in-plane}
 use Rattle.places.specs.Rows.{bytes-in, byte-of}
-use Rattle.quick.specs.Sound.{Good, Beside, Sound, seedPart, hangPart, NoneHangs}
+use Rattle.quick.specs.Sound.{Good, Beside, Sound, seedPart, shadowPart, Row-sound, Row-held}
 
 -- a row's bytes lie in its plane
 pub row-room : (w h y rb len : ℕ) → y < h → rb ≡ rowBytes w → h * rowBytes w ≤ len → y * rb + rb ≤ len
 row-room w h y rb len ly er el = omega (arith, bytes-in w h y (y * rb) rb (h * rowBytes w) refl er ly refl)
-
--- a row of 32 bytes by its four words
-pub four-words : (s : List ℕ) (at n a b c d : ℕ) → n ≡ 32 → Digits 64 a (at * 8) (bitOf s) → Digits 64 b ((at + 8) * 8) (bitOf s) → Digits 64 c ((at + 16) * 8) (bitOf s) → Digits 64 d ((at + 24) * 8) (bitOf s)
-    → (k : ℕ) → column (record { a = a; b = b; c = c; d = d }) k ≡ rowPart s at n k
-unfolding column
-four-words s at n a b c d e A B C D =
-    columns a b c d (rowPart s at n) (first-word s at n a (omega arith) A) (whole-row s at n 1 b (omega arith) B) (whole-row s at n 2 c (omega arith) C) (whole-row s at n 3 d (omega arith) D) (λ k h. part-end s at n k (omega arith) h)
-
--- what hangs, plane by plane
-pub hang-each : (u a l b : Bool) → (((u && not l) && not b) || ((a && not l) && not b)) ≡ ((u || a) && not (l || b))
-hang-each true true true b = refl
-hang-each true true false true = refl
-hang-each true true false false = refl
-hang-each true false true b = refl
-hang-each true false false true = refl
-hang-each true false false false = refl
-hang-each false true true b = refl
-hang-each false true false true = refl
-hang-each false true false false = refl
-hang-each false false true b = refl
-hang-each false false false true = refl
-hang-each false false false false = refl
 
 part-out : (s : List ℕ) (at n c : ℕ) → rowPart s at n c ≡ true → (c < n * 8) × (bitOf s (at * 8 + c) ≡ true)
 unfolding rowPart
@@ -76,14 +54,24 @@ module _ (w h rb r : ℕ) (er : rb ≡ rowBytes w) where
   unfolding packed rowPart
   packed-part s y c l = rw (digits-div y l, digits-mod y l, ← er, lt-ltb c (rb * 8) (omega (arith, row-wide)))
 
-  -- a pixel that hangs, and has a ring, is not unheld
-  pub held-pixel : (low up below above rings : List ℕ) (c : ℕ) → c < w → (hangPart low up below above (r * rb) rb c ≡ true → 0 < getD rings (r * w + c) 0)
-      → unheldHere (packed w low) (packed w up) (packed w below) (packed w above) (λ o. getD rings o 0) (r * w + c) ≡ false
-  unfolding unheldHere hangPart
-  held-pixel low up below above rings c l held =
-      rw (packed-part low r c l, packed-part up r c l, packed-part below r c l, packed-part above r c l)
-      (split ((rowPart up (r * rb) rb c || rowPart above (r * rb) rb c) && not (rowPart low (r * rb) rb c || rowPart below (r * rb) rb c))
-      (λ t. rw (t, ne-eqb (getD rings (r * w + c) 0) 0 (λ z. omega (arith, held t)))) (λ t. rw t))
+  pub shadow-part : (low up : List ℕ) (c : ℕ) → c < w → shadow (packed w low) (packed w up) (r * w + c) ≡ shadowPart low up (r * rb) rb c
+  unfolding shadow shadowPart
+  shadow-part low up c l = rw (packed-part up r c l, packed-part low r c l)
+
+  -- a row without shadow and without rings
+  pub bare-sound : (t : ℕ) (f : Plane) (low up rings : List ℕ) → ((c : ℕ) → c < w → getD rings (r * w + c) 0 ≡ 0) → Row-sound w h t f low up rings r
+  bare-sound t f low up rings none c l =
+      let e = none c l in
+      (record { free = λ p. absurd (omega arith); first = λ p. absurd (omega arith); leans = λ p. absurd (omega arith) }, λ p. absurd (omega arith))
+
+  pub bare-held : (low up below rings : List ℕ) → ((c : ℕ) → shadowPart low up (r * rb) rb c ≡ false) → Row-held w low up below rings r
+  bare-held low up below rings none c l s b = clash s (shadow-part low up c l ∙ none c)
+
+  -- a shadow pixel without support below hangs
+  pub hung-held : (low up below rings : List ℕ) (sh be ha : ℕ → Bool) → ((c : ℕ) → sh c ≡ shadowPart low up (r * rb) rb c) → ((c : ℕ) → be c ≡ rowPart below (r * rb) rb c) →
+      ((c : ℕ) → c < 256 → ha c ≡ (sh c && not (be c))) → w ≤ 256 → ((c : ℕ) → c < w → ha c ≡ true → 0 < getD rings (r * w + c) 0) → Row-held w low up below rings r
+  hung-held low up below rings sh be ha Sh Be Ha lw held c l s b =
+      held c l (Ha c (omega arith) ∙ rw (Sh c, ← shadow-part low up c l, s, Be c, ← packed-part below r c l, b))
 
   module _ (low up : List ℕ) (cl : Clean w h low) where
     seed-in-row : (y c : ℕ) → y < h → seedPart low up (y * rb) rb c ≡ true → (c < w) × (seeds (packed w low) (packed w up) (y * w + c) ≡ true)
@@ -94,11 +82,10 @@ module _ (w h rb r : ℕ) (er : rb ≡ rowBytes w) where
 
     module _ (above below : ℕ) (lr : r < h) (ea : above ≡ r - 1) (eb : below ≡ min (r + 1) (h - 1)) (se fr fi : ℕ → Bool)
         (Se : (c : ℕ) → se c ≡ ((seedPart low up (above * rb) rb c || seedPart low up (r * rb) rb c) || seedPart low up (below * rb) rb c))
-        (Fr : (c : ℕ) → fr c ≡ true → (rowPart up (r * rb) rb c && not (rowPart low (r * rb) rb c)) ≡ true)
+        (Fr : (c : ℕ) → fr c ≡ shadowPart low up (r * rb) rb c)
         (Fi : (c : ℕ) → fi c ≡ true → (fr c ≡ true) × (beside 1 se c ≡ true)) where
       free-pixel : (c : ℕ) → c < w → fr c ≡ true → shadow (packed w low) (packed w up) (r * w + c) ≡ true
-      unfolding shadow
-      free-pixel c l e = rw (packed-part up r c l, packed-part low r c l) (Fr c e)
+      free-pixel c l e = shadow-part low up c l ∙ sym (Fr c) ∙ e
 
       -- a shadow pixel beside a seed
       seed-beside : (c d : ℕ) → c < w → d ≤ c + 1 → c ≤ d + 1 → shadow (packed w low) (packed w up) (r * w + c) ≡ true → se d ≡ true → Beside w h (seeds (packed w low) (packed w up)) (r * w + c)
@@ -129,34 +116,37 @@ module _ (w h rb r : ℕ) (er : rb ≡ rowBytes w) where
           (seed-beside c (c + 1) lc (omega arith) (omega arith) sh)
           (λ u. let p : 1 ≤ c = leb-true 1 c (and-l (leb 1 c) _ u) in seed-beside c (c - 1) lc (omega arith) (omega arith) sh (and-r (leb 1 c) _ u))
 
-      -- a good ring is sound
-      pub good-sound : (q t m : ℕ) (disc : Plane) (rings : List ℕ) → ((c : ℕ) → c < w → t < m → fr c ≡ true → near w h q disc (r * w + c) ≡ true) →
-          (c : ℕ) → c < w → getD rings (r * w + c) 0 ≤ m → Good w h (fr c) (fi c) rings r c → Sound w h q t disc (packed w low) (packed w up) (λ o. getD rings o 0) (r * w + c)
-      good-sound q t m disc rings Fn c lc lm g = record {
-        free = λ l. free-pixel c lc (is-free l);
-        close = λ l. Fn c lc (omega arith) (is-free (omega arith));
-        first = λ e. first-pixel c lc (g .first-in e);
-        leans = λ l.
-            let s = g .leans l in (
-              s .row * w + s .column,
-              in-plane w h (s .row) (s .column) (s .row-in) (s .column-in),
-              touch-in w r c (s .row) (s .column) lc (s .column-in) (record {
-                up = s .up;
-                down = s .down;
-                left = s .left;
-                right = s .right;
-                other = λ q z. same-ring (r * w + c) (s .row * w + s .column) l (s .is) (ap (λ (x : ℕ). x * w + c) q ∙ ap (λ (x : ℕ). s .row * w + x) z);
-              }),
-              omega (arith, s .is),
-            );
-      }
+      -- a good ring is sound, and lies in `far` where it is larger than t
+      pub good-sound : (t most : ℕ) (rings : List ℕ) (got far : ℕ → Bool) → ((c : ℕ) → c < w → Good w h (fr c) (fi c) rings r c) →
+          ((c : ℕ) → c < w → (getD rings (r * w + c) 0 ≤ most) × (0 < getD rings (r * w + c) 0 → got c ≡ true)) → (t < most → (c : ℕ) → c < w → got c ≡ true → far c ≡ true) →
+          Row-sound w h t far low up rings r
+      good-sound t most rings got far good gets fars c lc = (sound (good c lc), λ l. fars (omega (arith, gets c lc .0)) c lc (gets c lc .1 (omega arith)))
         where
-          is-free : 0 < getD rings (r * w + c) 0 → fr c ≡ true
-          is-free l = split (eqb (getD rings (r * w + c) 0) 1)
+          is-free : Good w h (fr c) (fi c) rings r c → 0 < getD rings (r * w + c) 0 → fr c ≡ true
+          is-free g l = split (eqb (getD rings (r * w + c) 0) 1)
               (λ t. Fi c (g .first-in (eqb-true (getD rings (r * w + c) 0) 1 t)) .0) (λ t. g .free-in (omega (arith, eqb-false (getD rings (r * w + c) 0) 1 t)))
 
           same-ring : (p o : ℕ) → 1 < getD rings p 0 → getD rings o 0 ≡ getD rings p 0 - 1 → p ≡ o → ⊥
           same-ring p o l e q = omega (arith, ap (λ (x : ℕ). getD rings x 0) q)
+
+          sound : Good w h (fr c) (fi c) rings r c → Sound w h (packed w low) (packed w up) (λ o. getD rings o 0) (r * w + c)
+          sound g = record {
+            free = λ l. free-pixel c lc (is-free g l);
+            first = λ e. first-pixel c lc (g .first-in e);
+            leans = λ l.
+                let s = g .leans l in (
+                  s .row * w + s .column,
+                  in-plane w h (s .row) (s .column) (s .row-in) (s .column-in),
+                  touch-in w r c (s .row) (s .column) lc (s .column-in) (record {
+                    up = s .up;
+                    down = s .down;
+                    left = s .left;
+                    right = s .right;
+                    other = λ q z. same-ring (r * w + c) (s .row * w + s .column) l (s .is) (ap (λ (x : ℕ). x * w + c) q ∙ ap (λ (x : ℕ). s .row * w + x) z);
+                  }),
+                  omega (arith, s .is),
+                );
+          }
 
 -- a row that was put into four words
 pub put-four : (g was out : ℕ → Bool) → Within (0 * 64) ((0 + 4) * 64) (λ j. g (j - 0 * 64)) was out → (c : ℕ) → c < 256 → out c ≡ g c
@@ -165,16 +155,6 @@ put-four g was out W c l = W .inner c (omega arith) (omega arith) ∙ ap g (omeg
 pub good-same : (w h : ℕ) (a b a′ b′ : Bool) (rings : List ℕ) (r c : ℕ) → a ≡ a′ → b ≡ b′ → Good w h a b rings r c → Good w h a′ b′ rings r c
 good-same w h a b a′ b′ rings r c e f g = rw (← e, ← f) g
 
--- A row without rings, and all rows ------------------------------------------------------------------------------------------
-
-pub sound-none : (w h q t : ℕ) (disc low up : Plane) (ring : ℕ → ℕ) (p : ℕ) → ring p ≤ 0 → Sound w h q t disc low up ring p
-sound-none w h q t disc low up ring p e =
-    record { free = λ l. absurd (omega arith); close = λ l. absurd (omega arith); first = λ o. absurd (omega arith); leans = λ l. absurd (omega arith) }
-
 -- all pixels of all rows
 pub all-rows : (w h : ℕ) (P : ℕ → Type 0) → ((y : ℕ) → y < h → (c : ℕ) → c < w → P (y * w + c)) → (p : ℕ) → p < h * w → P p
 all-rows w h P all p l = let (lr, lc) = digits-in p h w l in subst P (div-add-mod' p w) (all (p / w) lr (p % w) lc)
-
--- what is held, where anything hangs and where nothing does
-pub held-some : (some : Bool) (P : Type 0) → (some ≡ false → P) → (some ≡ true → P) → P
-held-some some P none any = split some any none

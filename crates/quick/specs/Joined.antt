@@ -1,27 +1,27 @@
 -- Laws of rings joined, of eight rings at once, of the neighbours and of a good ring.
 use mathlib.Core.Path.{_≡_, refl, sym, ap, subst, _∙_}
-use mathlib.Core.Bool.{Bool, true, false}
+use mathlib.Core.Bool.{Bool, true, false, not, _&&_, _||_, cond}
 use mathlib.Core.List.{List}
-use mathlib.Core.Logic.{_⊎_, inl, inr, ⊎-elim}
 use Prim.Native.Nat.{ℕ, _+_, _-_, _*_, _/_, _%_, _^_, _<_, _≤_}
 use native.Mathlib.Omega.{arith}
 use borrow.Author.Count.{below-more}
-use borrow.Author.Tests.{ltb-true, ltb-false, eqb-true, eqb-false}
+use native.Mathlib.Decide.{decLt}
+use borrow.Author.Tests.{ltb-true, ltb-false, lt-ltb, le-ltb, eq-eqb, ne-eqb}
 use lib.Bits.{bitAnd, bitOr, bitXor, or-add-and, xor-add-and, and-le-l, and-le-r}
 use lib.Dec.{ltb, eqb}
 use lib.ListN.{length, getD, set}
 use lib.Seq.{getD-set-same, getD-set-other}
 use Rattle.rules.specs.Tools.{bit}
 use Rattle.rules.specs.Images.{bitAt}
-use Rattle.laws.specs.Tests.{split}
+use Rattle.laws.specs.Tests.{split, or-false, and-true, and-false}
 use Rattle.image.specs.Bits.{or-none}
 use Rattle.places.specs.Search.{Sized}
 use Rattle.places.specs.Planes.{in-plane}
 use Rattle.places.specs.Rows.{area-fit}
 use Rattle.words.specs.Words.{bitOfWord, wordBit}
-use Rattle.quick.specs.Sound.{Ones, Step, Good, Tells}
+use Rattle.quick.specs.Sound.{Ones, Alike, Step, Good, Got, Tells}
 use Rattle.quick.specs.declared.Told.{Told}
-use Rattle.quick.specs.BitLaws.{or-out, word-bit, covered-bit}
+use Rattle.quick.specs.BitLaws.{bit-zero, bit-or, bit-at, word-bit, covered-bit}
 
 -- Rings joined -----------------------------------------------------------------------------------------------------------
 
@@ -38,33 +38,15 @@ gathered-more f j all h = below-more (λ k. f k ≤ bitOr all (f j)) j (λ k l. 
 pub quiet-at : (rings : List ℕ) (at x n all k : ℕ) → all ≡ 0 → ((j : ℕ) → j < n → getD rings (at + x + j) 0 ≤ all) → k < n → getD rings (at + (x + k)) 0 ≡ 0
 quiet-at rings at x n all k e le l = let z : at + x + k ≡ at + (x + k) = omega arith in let m : getD rings (at + x + k) 0 ≤ all = le k l in omega (arith, rw z at m)
 
--- one more stretch, of k pixels
-pub marked-more : (rings marks : List ℕ) (all x s m k : ℕ) → x ≡ s * 256 → k ≤ 256 → s < length marks →
-    ((p : ℕ) → p < x → (getD rings p 0 ≤ all) × (getD rings p 0 ≤ getD marks (p / 256) 0)) → ((j : ℕ) → j < k → getD rings (x + j) 0 ≤ m) →
-    (p : ℕ) → p < x + k → (getD rings p 0 ≤ bitOr all m) × (getD rings p 0 ≤ getD (set marks s m) (p / 256) 0)
-marked-more rings marks all x s m k e lk ls old new p l =
-    split (ltb p x)
-    (λ t.
-    let b : p < x = ltb-true p x t in
-    let (u, v) = old p b in
-    (omega (arith, or-left all m), rw (getD-set-other marks s (p / 256) m 0 (λ z. omega arith)) v))
-    (λ t.
-    let b : x ≤ p = ltb-false p x t in
-    let z : x + (p - x) ≡ p = omega arith in
-    let d : p / 256 ≡ s = omega arith in
-    let u : getD rings p 0 ≤ m = rw z at (new (p - x) (omega arith)) in
-    (omega (arith, or-right all m), rw (d, getD-set-same marks s m 0 ls) u))
-
--- the one or two stretches of n pixels from x on
-pub joined-most : (marks rings : List ℕ) (x n : ℕ) → n ≤ 256 → ((p : ℕ) → p < x + n → getD rings p 0 ≤ getD marks (p / 256) 0) →
-    (c : ℕ) → c < n → getD rings (x + c) 0 ≤ bitOr (getD marks (x / 256) 0) (getD marks ((x + n - 1) / 256) 0)
-joined-most marks rings x n ln all c lc =
-    let m : getD rings (x + c) 0 ≤ getD marks ((x + c) / 256) 0 = all (x + c) (omega arith) in
-    split (eqb ((x + c) / 256) (x / 256))
-    (λ t. omega (arith, or-left (getD marks (x / 256) 0) (getD marks ((x + n - 1) / 256) 0), rw (eqb-true ((x + c) / 256) (x / 256) t) at m))
-    (λ t.
-    let z : (x + c) / 256 ≡ (x + n - 1) / 256 = omega (arith, eqb-false ((x + c) / 256) (x / 256) t) in
-    omega (arith, or-right (getD marks (x / 256) 0) (getD marks ((x + n - 1) / 256) 0), rw z at m))
+-- one more stretch of 256 pixels, or the rest
+pub quiet-more : (rings : List ℕ) (x j n all m : ℕ) → (all ≡ 0 → (k : ℕ) → k < j → getD rings (x + k) 0 ≡ 0) → ((k : ℕ) → k < n → getD rings (x + j + k) 0 ≤ m) → bitOr all m ≡ 0 →
+    (k : ℕ) → k < j + n → getD rings (x + k) 0 ≡ 0
+quiet-more rings x j n all m old new e k l =
+    let (a, b) = or-none all m e in
+    split (ltb k j) (λ t. old a k (ltb-true k j t)) (λ t.
+    let z : x + j + (k - j) ≡ x + k = omega (arith, ltb-false k j t) in
+    let u : getD rings (x + k) 0 ≤ m = rw z at (new (k - j) (omega (arith, ltb-false k j t))) in
+    omega arith)
 
 -- Eight rings at once ----------------------------------------------------------------------------------------------------
 
@@ -81,9 +63,10 @@ unfolding bit
 bit-one true e = refl
 bit-one false e = absurd (omega arith)
 
-one-pos : 0 < bit true
+bit-some : (b : Bool) → ltb 0 (bit b) ≡ b
 unfolding bit
-one-pos = omega arith
+bit-some true = refl
+bit-some false = refl
 
 bit-small : (b : Bool) → bit b ≤ 1
 unfolding bit
@@ -98,6 +81,16 @@ ones-at l o m at k lm e lk =
     let d : (at + k) / 8 ≡ m = omega arith in
     let r : (at + k) % 8 ≡ k = omega arith in
     o .is (at + k) (omega arith) ∙ rw (d, r)
+
+-- a byte of the word, and its rings
+pub alike-byte : (rings : List ℕ) (x m b v : ℕ) → ((j : ℕ) → j < 8 → bitAt v j ≡ bitOfWord m (8 * b + j)) → ((k : ℕ) → k < 8 → getD rings (x + 8 * b + k) 0 ≡ bit (bitAt v k)) → Alike rings x m b
+alike-byte rings x m b v byte like k l = like k l ∙ ap bit (byte k l)
+
+-- one more flag is stored
+pub stored-flag : (P : ℕ → Type 0) (l : List Bool) (b : ℕ) (v : Bool) → b < length l → ((k : ℕ) → k < b → getD l k false ≡ true → P k) → (v ≡ true → P b) →
+    (k : ℕ) → k < b + 1 → getD (set l b v) k false ≡ true → P k
+stored-flag P l b v lb old new = below-more (λ k. getD (set l b v) k false ≡ true → P k) b
+    (λ k h e. old k h (sym (getD-set-other l b k v false (λ z. omega arith)) ∙ e)) (λ e. new (sym (getD-set-same l b v false lb) ∙ e))
 
 -- The neighbours --------------------------------------------------------------------------------------------
 
@@ -135,71 +128,157 @@ all-more P a k all here y l h = split (ltb y k) (λ t. all y l (ltb-true y k t))
 
 -- What a word tells ---------------------------------------------------------------------------------------------------------
 
--- one more pixel that has a ring, if v is one
-pub got-more : (rings : List ℕ) (at x got m v k : ℕ) → v ≡ getD rings (at + (x + k)) 0 → ((j : ℕ) → j < 64 → bitOfWord got j ≡ true → 0 < getD rings (at + (x + j)) 0) →
-    ((j : ℕ) → j < 64 → bitOfWord m j ≡ true → (j ≡ k) × (0 < v)) → (j : ℕ) → j < 64 → bitOfWord (bitOr got m) j ≡ true → 0 < getD rings (at + (x + j)) 0
-got-more rings at x got m v k e old new j lj u = ⊎-elim (old j lj) (λ b. let (z, l) = new j lj b in rw z (omega arith)) (or-out got m j u)
+or-yes : (a : Bool) → (a || true) ≡ true
+or-yes true = refl
+or-yes false = refl
 
--- a bit of `got`: it has a ring, or it is a first pixel from byte b on
-abbrev pub Still : List ℕ → ℕ → ℕ → ℕ → ℕ → ℕ → Type 0
-Still rings at x first b k = (0 < getD rings (at + (x + k)) 0) ⊎ ((8 * b ≤ k) × (bitOfWord first k ≡ true))
+pub least-more : (f : ℕ → ℕ) (a k most : ℕ) → ((j : ℕ) → a ≤ j → j < k → f j ≤ most) → (j : ℕ) → a ≤ j → j < k + 1 → f j ≤ bitOr most (f k)
+least-more f a k most old j lo hi = split (ltb j k) (λ t. omega (arith, old j lo (ltb-true j k t), or-left most (f k))) (λ t.
+    let z : j ≡ k = omega (arith, ltb-false j k t) in rw z (or-right most (f k)))
+
+module _ (w : ℕ) (rings : List ℕ) (at x a k got : ℕ) where
+  pub got-none : getD rings (at + (x + k)) 0 ≡ 0 → k < 64 → Got w rings at x a k got → Got w rings at x a (k + 1) got
+  got-none e lk g = record {
+    has = λ j lo hi lw. split (ltb j k) (λ t. g .has j lo (ltb-true j k t) lw) (λ t.
+        let z : j ≡ k = omega (arith, ltb-false j k t) in rw (z, e) (g .only k lk (λ u v. omega arith)));
+    only = λ j l out. g .only j l (λ u v. out u (omega arith));
+  }
+
+  -- one more pixel that has a ring: b is its bit
+  pub got-some : (b : ℕ) → ((j : ℕ) → j < 64 → bitOfWord b j ≡ eqb j k) → 0 < getD rings (at + (x + k)) 0 → a ≤ k → k < 64 → Got w rings at x a k got → Got w rings at x a (k + 1) (bitOr got b)
+  got-some b is pos la lk g = record {
+    has = λ j lo hi lw. bit-or got b j ∙ split (ltb j k)
+        (λ t. let l : j < k = ltb-true j k t in rw (is j (omega arith), ne-eqb j k (λ z. omega arith), or-false (bitOfWord got j)) (g .has j lo l lw))
+        (λ t. let z : j ≡ k = omega (arith, ltb-false j k t) in rw (z, is k lk, eq-eqb k k refl, or-yes (bitOfWord got k), lt-ltb 0 (getD rings (at + (x + k)) 0) pos));
+    only = λ j l out. bit-or got b j ∙ rw (is j l, ne-eqb j k (λ z. out (omega arith) (omega arith)), or-false (bitOfWord got j)) (g .only j l (λ u v. out u (omega arith)));
+  }
 
 module _ (w h : ℕ) (rings : List ℕ) (r x free first b : ℕ) where
   -- the pixels before byte b are good
   abbrev pub Before : ℕ → Type 0
   Before n = (k : ℕ) → 0 ≤ k → k < n → Good w h (bitOfWord free k) (bitOfWord first k) rings r (x + k)
 
+  -- the bits of `got`: before byte b those of the pixels that have a ring, then the first pixels
+  abbrev pub GotTo : ℕ → ℕ → Type 0
+  GotTo n got = (k : ℕ) → k < 64 → bitOfWord got k ≡ cond (ltb k (8 * n)) (ltb 0 (getD rings (r * w + (x + k)) 0)) (bitOfWord first k)
+
+  -- no ring before byte b is larger
+  abbrev pub Least : ℕ → ℕ → Type 0
+  Least n most = (1 ≤ most) × ((k : ℕ) → k < 8 * n → getD rings (r * w + (x + k)) 0 ≤ most)
+
   before-next : Before (8 * b) → ((k : ℕ) → 8 * b ≤ k → k < 8 * b + 8 → Good w h (bitOfWord free k) (bitOfWord first k) rings r (x + k)) → Before (8 * (b + 1))
   before-next old new k z l = split (ltb k (8 * b)) (λ t. old k z (ltb-true k (8 * b) t)) (λ t. new k (ltb-false k (8 * b) t) (omega arith))
 
-  module _ (m : ℕ) (like : (j : ℕ) → j < 8 → getD rings (r * w + x + 8 * b + j) 0 ≡ bit (bitAt m j)) (byte : (j : ℕ) → j < 8 → bitAt m j ≡ bitOfWord first (8 * b + j)) where
+  least-next : (m n : ℕ) → m ≤ n → Least b m → ((k : ℕ) → 8 * b ≤ k → k < 8 * b + 8 → getD rings (r * w + (x + k)) 0 ≤ n) → Least (b + 1) n
+  least-next m n le (o, old) new = (omega arith, λ k l. split (ltb k (8 * b)) (λ t. omega (arith, old k (ltb-true k (8 * b) t))) (λ t. new k (ltb-false k (8 * b) t) (omega arith)))
+
+  -- k lies before byte b, in it or behind
+  got-next : (was now : ℕ) → GotTo b was → ((k : ℕ) → k < 64 → (8 * b ≤ k → k < 8 * b + 8 → ⊥) → bitOfWord now k ≡ bitOfWord was k) →
+      ((k : ℕ) → 8 * b ≤ k → k < 8 * b + 8 → bitOfWord now k ≡ ltb 0 (getD rings (r * w + (x + k)) 0)) → GotTo (b + 1) now
+  got-next was now old same new k l = elim (decLt k (8 * b)) [
+    | yes u ↦ same k l (λ lo hi. omega arith) ∙ old k l ∙ rw (lt-ltb k (8 * b) u, lt-ltb k (8 * (b + 1)) (omega arith))
+    | no u ↦ elim (decLt k (8 * b + 8)) [
+      | yes v ↦ new k (omega arith) v ∙ rw (lt-ltb k (8 * (b + 1)) (omega arith))
+      | no v ↦ same k l (λ lo hi. v hi) ∙ old k l ∙ rw (le-ltb k (8 * b) (omega arith), le-ltb k (8 * (b + 1)) (omega arith))
+    ]
+  ]
+
+  module _ (like : Alike rings (r * w + x) first b) where
     alike-ring : (k : ℕ) → 8 * b ≤ k → k < 8 * b + 8 → getD rings (r * w + (x + k)) 0 ≡ bit (bitOfWord first k)
     alike-ring k lo hi =
         let z : r * w + x + 8 * b + (k - 8 * b) ≡ r * w + (x + k) = omega arith in
         let y : 8 * b + (k - 8 * b) ≡ k = omega arith in
-        rw z at (like (k - 8 * b) (omega arith)) ∙ ap bit (byte (k - 8 * b) (omega arith) ∙ ap (bitOfWord first) y)
+        rw (z, y) at (like (k - 8 * b) (omega arith))
 
     pub alike-before : Before (8 * b) → Before (8 * (b + 1))
     alike-before old = before-next old (λ k lo hi. good-bit w h (bitOfWord free k) (bitOfWord first k) rings r (x + k) (alike-ring k lo hi))
 
-    pub alike-still : (got : ℕ) → ((k : ℕ) → k < 64 → bitOfWord got k ≡ true → Still rings (r * w) x first b k) → (k : ℕ) → k < 64 → bitOfWord got k ≡ true → Still rings (r * w) x first (b + 1) k
-    alike-still got old k l e = ⊎-elim inl (λ (lo, f). split (ltb k (8 * b + 8))
-        (λ t. inl (rw (alike-ring k lo (ltb-true k (8 * b + 8) t), f) one-pos))
-        (λ t. inr (omega (arith, ltb-false k (8 * b + 8) t), f))) (old k l e)
+    pub alike-least : (most : ℕ) → Least b most → Least (b + 1) most
+    alike-least most old = least-next most most (omega arith) old (λ k lo hi. omega (arith, alike-ring k lo hi, bit-small (bitOfWord first k), old .0))
 
-  pub told-before : (t : Told) → Tells w h rings r x (8 * b) (8 * b + 8) free first t → t .good ≡ true → x + 64 ≤ w → b < 8 → Before (8 * b) → Before (8 * (b + 1))
-  told-before t T g l lb old = before-next old (λ k lo hi. T .fine g k lo hi (omega arith))
+    pub alike-got : (got : ℕ) → b < 8 → GotTo b got → GotTo (b + 1) got
+    alike-got got lb old = got-next got got old (λ k l out. refl) (λ k lo hi.
+        old k (omega arith) ∙ rw (le-ltb k (8 * b) lo, alike-ring k lo hi) (sym (bit-some (bitOfWord first k))))
 
-  pub told-still : (t : Told) (got p : ℕ) → Tells w h rings r x (8 * b) (8 * b + 8) free first t →
-      ((k : ℕ) → k < 64 → bitOfWord p k ≡ true → (bitOfWord (t .got) k ≡ true) ⊎ ((bitOfWord got k ≡ true) × (8 * b ≤ k → k < 8 * b + 8 → ⊥))) →
-      ((k : ℕ) → k < 64 → bitOfWord got k ≡ true → Still rings (r * w) x first b k) → (k : ℕ) → k < 64 → bitOfWord p k ≡ true → Still rings (r * w) x first (b + 1) k
-  told-still t got p T patch old k l e = ⊎-elim (λ u. inl (T .has k l u)) (λ (u, out). ⊎-elim inl (λ (lo, f). split (ltb k (8 * b + 8))
-      (λ v. absurd (out lo (ltb-true k (8 * b + 8) v))) (λ v. inr (omega (arith, ltb-false k (8 * b + 8) v), f))) (old k l u)) (patch k l e)
+  module _ (t : Told) (T : Tells w h rings r x (8 * b) (8 * b + 8) free first t) (g : t .good ≡ true) (lw : x + 64 ≤ w) (lb : b < 8) where
+    pub told-before : Before (8 * b) → Before (8 * (b + 1))
+    told-before old = before-next old (λ k lo hi. T .fine g k lo hi (omega arith))
 
-  pub word-has : (got : ℕ) → 8 ≤ b → ((k : ℕ) → k < 64 → bitOfWord got k ≡ true → Still rings (r * w) x first b k) → (k : ℕ) → k < 64 → bitOfWord got k ≡ true → 0 < getD rings (r * w + (x + k)) 0
-  word-has got lb all k l e = ⊎-elim (λ u. u) (λ (lo, f). absurd (omega arith)) (all k l e)
+    pub told-least : (most : ℕ) → Least b most → Least (b + 1) (bitOr most (t .most))
+    told-least most old = least-next most (bitOr most (t .most)) (or-left most (t .most)) old (λ k lo hi. omega (arith, T .most g k lo hi (omega arith), or-right most (t .most)))
+
+    pub told-got : (got p : ℕ) → ((k : ℕ) → k < 64 → bitOfWord p k ≡ ((bitOfWord got k && not (eqb (k / 8) b)) || bitOfWord (t .got) k)) → GotTo b got → GotTo (b + 1) p
+    told-got got p patch old = got-next got p old
+        (λ k l out. patch k l ∙ rw (ne-eqb (k / 8) b (λ z. out (omega arith) (omega arith)), T .gets g .only k l out, and-true (bitOfWord got k), or-false (bitOfWord got k)))
+        (λ k lo hi. patch k (omega arith) ∙ rw (eq-eqb (k / 8) b (omega arith), and-false (bitOfWord got k)) (T .gets g .has k lo hi (omega arith)))
+
+-- a word whose bytes are all alike
+pub all-alike : (w h : ℕ) (rings : List ℕ) (r x free first : ℕ) → ((b : ℕ) → b < 8 → Alike rings (r * w + x) first b) → Tells w h rings r x 0 64 free first (record { good = true; got = first; most = 1 })
+all-alike w h rings r x free first like = record {
+  fine = λ e k lo hi lw. good-bit w h (bitOfWord free k) (bitOfWord first k) rings r (x + k) (ring k hi);
+  gets = λ e. record { has = λ k lo hi lw. rw (ring k hi) (sym (bit-some (bitOfWord first k))); only = λ k l out. absurd (out (omega arith) l) };
+  most = λ e k lo hi lw. rw (ring k hi) (bit-small (bitOfWord first k));
+}
+  where
+    ring : (k : ℕ) → k < 64 → getD rings (r * w + (x + k)) 0 ≡ bit (bitOfWord first k)
+    ring k l = alike-ring w h rings r x free first (k / 8) (like (k / 8) (omega arith)) k (omega arith) (omega arith)
+
+-- a word of which the image has w - x columns
+pub short-told : (w h : ℕ) (rings : List ℕ) (r x free first : ℕ) (t : Told) → x < w → Tells w h rings r x 0 (w - x) free first t → Tells w h rings r x 0 64 free first t
+short-told w h rings r x free first t l T = record {
+  fine = λ e k lo hi lw. T .fine e k lo (omega arith) lw;
+  gets = λ e. record { has = λ k lo hi lw. T .gets e .has k lo (omega arith) lw; only = λ k h out. absurd (out (omega arith) h) };
+  most = λ e k lo hi lw. T .most e k lo (omega arith) lw;
+}
+
+-- a word without rings
+pub quiet-told : (w h : ℕ) (rings : List ℕ) (r x free first : ℕ) (b : Bool) → (b ≡ true → (k : ℕ) → k < 64 → getD rings (r * w + (x + k)) 0 ≡ 0) → Tells w h rings r x 0 64 free first (record { good = b; got = 0; most = 0 })
+quiet-told w h rings r x free first b none = record {
+  fine = λ e k lo hi lw. good-none w h (bitOfWord free k) (bitOfWord first k) rings r (x + k) (none e k hi);
+  gets = λ e. record { has = λ k lo hi lw. bit-zero k ∙ rw (none e k hi); only = λ k l out. bit-zero k };
+  most = λ e k lo hi lw. omega (arith, none e k hi);
+}
+
+-- a whole word, after its last byte
+pub word-told : (w h : ℕ) (rings : List ℕ) (r x free first n got most : ℕ) → 8 ≤ n → Before w h rings r x free first 0 (8 * n) → GotTo w h rings r x free first 0 n got → Least w h rings r x free first 0 n most →
+    Tells w h rings r x 0 64 free first (record { good = true; got = got; most = most })
+word-told w h rings r x free first n got most ln B G L = record {
+  fine = λ e k lo hi lw. B k lo (omega arith);
+  gets = λ e. record { has = λ k lo hi lw. G k hi ∙ rw (lt-ltb k (8 * n) (omega arith)); only = λ k l out. absurd (out (omega arith) l) };
+  most = λ e k lo hi lw. L .1 k (omega arith);
+}
 
 -- The words of a row ----------------------------------------------------------------------------------------------------------
 
-module _ (w h : ℕ) (rings : List ℕ) (r i : ℕ) where
-  pub row-fine : (free first : List ℕ) (t : Told) → Tells w h rings r (i * 64) 0 64 (getD free i 0) (getD first i 0) t → t .good ≡ true →
-      ((c : ℕ) → c < i * 64 → c < w → Good w h (wordBit free c) (wordBit first c) rings r c) → (c : ℕ) → c < (i + 1) * 64 → c < w → Good w h (wordBit free c) (wordBit first c) rings r c
-  row-fine free first t T g old c l lc = split (ltb c (i * 64)) (λ b. old c (ltb-true c (i * 64) b) lc) (λ b.
-      let lo : i * 64 ≤ c = ltb-false c (i * 64) b in
-      let k : ℕ = c - i * 64 in
-      let z : i * 64 + k ≡ c = omega arith in
-      subst (λ (y : ℕ). Good w h (wordBit free y) (wordBit first y) rings r y) z
-      (rw (word-bit free i k (omega arith), word-bit first i k (omega arith)) (T .fine g k (omega arith) (omega arith) (omega arith))))
+-- the words before word i tell: their rings are good and at most `most`, and `got` has those that have one
+pub record Lined (w h : ℕ) (rings : List ℕ) (r i : ℕ) (free first got : List ℕ) (most : ℕ) : Type 0 where
+  pub fine : (c : ℕ) → c < i * 64 → c < w → Good w h (wordBit free c) (wordBit first c) rings r c
+  pub gets : (c : ℕ) → c < i * 64 → c < w → 0 < getD rings (r * w + c) 0 → wordBit got c ≡ true
+  pub least : (c : ℕ) → c < i * 64 → c < w → getD rings (r * w + c) 0 ≤ most
 
-  pub row-held : (hang : List ℕ) (a b free first bare : ℕ) (t : Told) → Tells w h rings r (i * 64) a b free first t → t .got < 2 ^ 64 →
+module _ (w h : ℕ) (rings : List ℕ) (r i : ℕ) where
+  -- what holds of a column of word i holds of its bit
+  in-word : (P : ℕ → Type 0) → ((c : ℕ) → c < i * 64 → c < w → P c) → ((k : ℕ) → k < 64 → i * 64 + k < w → P (i * 64 + k)) → (c : ℕ) → c < (i + 1) * 64 → c < w → P c
+  in-word P old new c l lc = split (ltb c (i * 64)) (λ b. old c (ltb-true c (i * 64) b) lc) (λ b.
+      let z : i * 64 + (c - i * 64) ≡ c = omega (arith, ltb-false c (i * 64) b) in
+      subst P z (new (c - i * 64) (omega (arith, ltb-false c (i * 64) b)) (omega arith)))
+
+  pub lined-more : (free first got : List ℕ) (most : ℕ) (t : Told) → Tells w h rings r (i * 64) 0 64 (getD free i 0) (getD first i 0) t → t .good ≡ true → i < length got →
+      Lined w h rings r i free first got most → Lined w h rings r (i + 1) free first (set got i (t .got)) (bitOr most (t .most))
+  lined-more free first got most t T g lg L = record {
+    fine = in-word (λ c. Good w h (wordBit free c) (wordBit first c) rings r c) (L .fine) (λ k lk lw. rw (word-bit free i k lk, word-bit first i k lk) (T .fine g k (omega arith) lk lw));
+    gets = in-word (λ c. 0 < getD rings (r * w + c) 0 → wordBit (set got i (t .got)) c ≡ true)
+        (λ c l lc pos. bit-at (set got i (t .got)) c ∙ rw (getD-set-other got i (c / 64) (t .got) 0 (λ z. omega arith)) (sym (bit-at got c)) ∙ L .gets c l lc pos)
+        (λ k lk lw pos. word-bit (set got i (t .got)) i k lk ∙ rw (getD-set-same got i (t .got) 0 lg) (T .gets g .has k (omega arith) lk lw) ∙ lt-ltb 0 _ pos);
+    least = in-word (λ c. getD rings (r * w + c) 0 ≤ bitOr most (t .most))
+        (λ c l lc. omega (arith, L .least c l lc, or-left most (t .most))) (λ k lk lw. omega (arith, T .most g k (omega arith) lk lw, or-right most (t .most)));
+  }
+
+  pub row-held : (hang : List ℕ) (free first bare : ℕ) (t : Told) → Tells w h rings r (i * 64) 0 64 free first t → t .good ≡ true → t .got < 2 ^ 64 →
       (bare ≡ 0 → (c : ℕ) → c < i * 64 → c < w → wordBit hang c ≡ true → 0 < getD rings (r * w + c) 0) →
       bitOr bare (bitAnd (getD hang i 0) (2 ^ 64 - 1 - t .got)) ≡ 0 → (c : ℕ) → c < (i + 1) * 64 → c < w → wordBit hang c ≡ true → 0 < getD rings (r * w + c) 0
-  row-held hang a b free first bare t T lg old e c l lc u =
+  row-held hang free first bare t T g lg old e =
       let (x, y) = or-none bare (bitAnd (getD hang i 0) (2 ^ 64 - 1 - t .got)) e in
-      split (ltb c (i * 64)) (λ v. old x c (ltb-true c (i * 64) v) lc u) (λ v.
-      let lo : i * 64 ≤ c = ltb-false c (i * 64) v in
-      let k : ℕ = c - i * 64 in
-      let z : i * 64 + k ≡ c = omega arith in
-      let m : bitOfWord (getD hang i 0) k ≡ true = sym (word-bit hang i k (omega arith)) ∙ ap (wordBit hang) z ∙ u in
-      let n : 0 < getD rings (r * w + (i * 64 + k)) 0 = T .has k (omega arith) (covered-bit (getD hang i 0) (t .got) k lg (omega arith) y m) in
-      rw z at n)
+      in-word (λ c. wordBit hang c ≡ true → 0 < getD rings (r * w + c) 0) (old x) (λ k lk lw u.
+      let m : bitOfWord (getD hang i 0) k ≡ true = sym (word-bit hang i k lk) ∙ u in
+      ltb-true 0 _ (sym (T .gets g .has k (omega arith) lk lw) ∙ covered-bit (getD hang i 0) (t .got) k lg lk y m))

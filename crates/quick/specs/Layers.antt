@@ -1,6 +1,6 @@
 -- Laws of a layer that is read into scratch, row by row.
 use mathlib.Core.Path.{_≡_, sym, ap, _∙_}
-use mathlib.Core.Bool.{Bool, true, false}
+use mathlib.Core.Bool.{Bool, true, false, not, _&&_}
 use mathlib.Core.List.{List}
 use Prim.Native.Nat.{ℕ, _+_, _-_, _*_, _/_, _%_, _<_, _≤_}
 use native.Mathlib.Nat.{div-add-mod'}
@@ -60,3 +60,11 @@ read-all w h r s out z lr long fr all = record {
 -- near in scratch is near the layer
 pub near-drawn : (w h q : ℕ) (s out : List ℕ) → Drawn w h (packed w s) out → (p : ℕ) → near w h q (seen w out) p ≡ near w h q (packed w s) p
 near-drawn w h q s out d p = near-same w h q (seen w out) (packed w s) (d .is) p
+
+-- no pixel of `far` is left outside the near row
+pub far-near : (w h q r : ℕ) (s out : List ℕ) (far close rest : ℕ → Bool) → Sized w h → Drawn w h (packed w s) out → r < h →
+    ((w h : ℕ) → Sizes w h → Framed w h out → r < h → (c : ℕ) → c < w → close c ≡ near w h q (seen w out) (r * w + c)) →
+    ((c : ℕ) → rest c ≡ (far c && not (close c))) → ((c : ℕ) → rest c ≡ false) → (c : ℕ) → c < w → far c ≡ true → near w h q (packed w s) (r * w + c) ≡ true
+far-near w h q r s out far close rest z d lr is but none c lc f = split (close c)
+    (λ t. sym (near-drawn w h q s out d (r * w + c)) ∙ sym (is w h (sizes-of w h z) (d .ready .framed) lr c lc) ∙ t)
+    (λ t. clash (but c ∙ rw (f, t)) (none c))

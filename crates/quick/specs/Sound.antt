@@ -3,6 +3,7 @@ use mathlib.Core.Path.{_≡_}
 use mathlib.Core.Bool.{Bool, true, false, not, _&&_, _||_}
 use mathlib.Core.List.{List}
 use Prim.Native.Nat.{ℕ, _+_, _-_, _*_, _/_, _%_, _≤_, _<_}
+use lib.Dec.{ltb}
 use lib.ListN.{length, getD}
 use Rattle.rules.specs.Tools.{bit}
 use Rattle.rules.specs.Images.{Plane, bitAt, rowBytes, pixel, ringAt, paddingSet}
@@ -36,10 +37,21 @@ pub record Good (w h : ℕ) (free first : Bool) (rings : List ℕ) (r c : ℕ) :
   pub free-in : 1 < getD rings (r * w + c) 0 → free ≡ true
   pub leans : 1 < getD rings (r * w + c) 0 → Step w h rings r c (getD rings (r * w + c) 0 - 1)
 
--- what the word at column x of row r tells: of its bits from a up to b whether their rings are good, and that those of `got` have one
+-- byte b of the word m: its eight rings, of which place x is the word's first, are 1 at its bits and else 0
+abbrev pub Alike : List ℕ → ℕ → ℕ → ℕ → Type 0
+Alike rings x m b = (k : ℕ) → k < 8 → getD rings (x + 8 * b + k) 0 ≡ bit (bitOfWord m (8 * b + k))
+
+-- the bits of `got` from a up to b are those of the word's pixels that have a ring, and there are no others
+pub record Got (w : ℕ) (rings : List ℕ) (at x a b got : ℕ) : Type 0 where
+  pub has : (k : ℕ) → a ≤ k → k < b → x + k < w → bitOfWord got k ≡ ltb 0 (getD rings (at + (x + k)) 0)
+  pub only : (k : ℕ) → k < 64 → (a ≤ k → k < b → ⊥) → bitOfWord got k ≡ false
+
+-- what the word at column x of row r tells of its bits from a up to b, where it says yes: their rings are good and at most `most`, and
+-- `got` has those that have one
 pub record Tells (w h : ℕ) (rings : List ℕ) (r x a b free first : ℕ) (t : Told) : Type 0 where
   pub fine : t .good ≡ true → (k : ℕ) → a ≤ k → k < b → x + k < w → Good w h (bitOfWord free k) (bitOfWord first k) rings r (x + k)
-  pub has : (k : ℕ) → k < 64 → bitOfWord (t .got) k ≡ true → 0 < getD rings (r * w + (x + k)) 0
+  pub gets : t .good ≡ true → Got w rings (r * w) x a b (t .got)
+  pub most : t .good ≡ true → (k : ℕ) → a ≤ k → k < b → x + k < w → getD rings (r * w + (x + k)) 0 ≤ t .most
 
 -- the pixel o touches p
 pub record Beside (w h : ℕ) (f : Plane) (p : ℕ) : Type 0 where
@@ -48,20 +60,18 @@ pub record Beside (w h : ℕ) (f : Plane) (p : ℕ) : Type 0 where
   pub touches : touch w p other ≡ true
   pub is : f other ≡ true
 
--- a ring lies in the shadow, and in the discs of the plane `disc` where it is larger than t; ring 1 beside a seed, a larger one beside a
--- ring that is one less
-pub record Sound (w h q t : ℕ) (disc low up : Plane) (ring : ℕ → ℕ) (p : ℕ) : Type 0 where
+-- a ring lies in the shadow; ring 1 beside a seed, a larger one beside a ring that is one less
+pub record Sound (w h : ℕ) (low up : Plane) (ring : ℕ → ℕ) (p : ℕ) : Type 0 where
   pub free : 0 < ring p → shadow low up p ≡ true
-  pub close : t < ring p → near w h q disc p ≡ true
   pub first : ring p ≡ 1 → Beside w h (seeds low up) p
   pub leans : 1 < ring p → (o : ℕ) × (o < h * w) × (touch w p o ≡ true) × (ring o + 1 ≡ ring p)
 
--- column c of the row of n bytes from `at` on: a seed, or a pixel that hangs
+-- column c of the row of n bytes from `at` on: a seed, or a shadow pixel
 unfoldable pub seedPart : List ℕ → List ℕ → ℕ → ℕ → ℕ → Bool
 seedPart low up at n c = rowPart low at n c && rowPart up at n c
 
-unfoldable pub hangPart : List ℕ → List ℕ → List ℕ → List ℕ → ℕ → ℕ → ℕ → Bool
-hangPart low up below above at n c = (rowPart up at n c || rowPart above at n c) && not (rowPart low at n c || rowPart below at n c)
+unfoldable pub shadowPart : List ℕ → List ℕ → ℕ → ℕ → ℕ → Bool
+shadowPart low up at n c = rowPart up at n c && not (rowPart low at n c)
 
 -- the four planes of a pair have n bytes at least
 pub record Long (n : ℕ) (low up below above : List ℕ) : Type 0 where
@@ -70,16 +80,25 @@ pub record Long (n : ℕ) (low up below above : List ℕ) : Type 0 where
   pub below-long : n ≤ length below
   pub above-long : n ≤ length above
 
--- no pixel of byte j hangs
-abbrev pub NoneHangs : List ℕ → List ℕ → List ℕ → List ℕ → ℕ → Type 0
-NoneHangs low up below above j = (k : ℕ) → k < 8 → ((bitAt (getD up j 0) k || bitAt (getD above j 0) k) && not (bitAt (getD low j 0) k || bitAt (getD below j 0) k)) ≡ false
+-- no pixel of byte j is in the shadow
+abbrev pub NoShadow : List ℕ → List ℕ → ℕ → Type 0
+NoShadow low up j = (k : ℕ) → k < 8 → (bitAt (getD up j 0) k && not (bitAt (getD low j 0) k)) ≡ false
 
--- the rings of row r are sound, and nothing that hangs over it is unheld
-abbrev pub Row-good : ℕ → ℕ → ℕ → ℕ → Plane → List ℕ → List ℕ → List ℕ → ℕ → Type 0
-Row-good w h q t disc low up rings r = (c : ℕ) → c < w → Sound w h q t disc (packed w low) (packed w up) (λ o. getD rings o 0) (r * w + c)
+-- no support pixel of byte j hangs over neither part nor support
+abbrev pub NoneHangs : List ℕ → List ℕ → List ℕ → ℕ → Type 0
+NoneHangs low below above j = (k : ℕ) → k < 8 → (bitAt (getD above j 0) k && not (bitAt (getD low j 0) k || bitAt (getD below j 0) k)) ≡ false
 
-abbrev pub Row-held : ℕ → List ℕ → List ℕ → List ℕ → List ℕ → List ℕ → ℕ → Type 0
-Row-held w low up below above rings r = (c : ℕ) → c < w → unheldHere (packed w low) (packed w up) (packed w below) (packed w above) (λ o. getD rings o 0) (r * w + c) ≡ false
+-- the rings of row r are sound, and those larger than t lie in f
+abbrev pub Row-sound : ℕ → ℕ → ℕ → Plane → List ℕ → List ℕ → List ℕ → ℕ → Type 0
+Row-sound w h t f low up rings r = (c : ℕ) → c < w → Sound w h (packed w low) (packed w up) (λ o. getD rings o 0) (r * w + c) × (t < getD rings (r * w + c) 0 → f c ≡ true)
+
+-- the rings of row r are sound, and those larger than t are near
+abbrev pub Row-good : ℕ → ℕ → ℕ → ℕ → List ℕ → List ℕ → List ℕ → ℕ → Type 0
+Row-good w h q t low up rings r = Row-sound w h t (λ c. near w h q (packed w low) (r * w + c)) low up rings r
+
+-- each shadow pixel of row r that has no support below has a ring
+abbrev pub Row-held : ℕ → List ℕ → List ℕ → List ℕ → List ℕ → ℕ → Type 0
+Row-held w low up below rings r = (c : ℕ) → c < w → shadow (packed w low) (packed w up) (r * w + c) ≡ true → packed w below (r * w + c) ≡ false → 0 < getD rings (r * w + c) 0
 
 -- a stack of n layers, its support and its rings
 pub record Whole (w h n : ℕ) (part sup rings : List ℕ) : Type 0 where

@@ -22,7 +22,7 @@ use Rattle.quick.specs.Sound.{Beside, Sound}
 abbrev leans : ℕ → ℕ → Plane → Plane → (ℕ → ℕ) → Plane
 leans w h low up ring p = touching (h * w) (touch w) (source (seeds low up) ring (ring p - 1)) p
 
-module _ (w h q t : ℕ) (disc low up : Plane) (ring : ℕ → ℕ) (all : (p : ℕ) → p < h * w → Sound w h q t disc low up ring p) where
+module _ (w h q t : ℕ) (low up : Plane) (ring : ℕ → ℕ) (all : (p : ℕ) → p < h * w → Sound w h low up ring p) where
   -- a seed carries no ring, for it lies in no shadow
   seed-bare : (o : ℕ) → o < h * w → seeds low up o ≡ true → ring o ≡ 0
   unfolding seeds shadow
@@ -68,9 +68,9 @@ module _ (w h q t : ℕ) (disc low up : Plane) (ring : ℕ → ℕ) (all : (p : 
       go zero e = rw (le-ltb 0 (ring p) (omega arith))
       go (suc j) e = rw (lt-ltb 0 (ring p) (omega arith), all p l .free (omega arith), right p j l e, leans-on p j l e)
 
-  -- a ring is near by itself, or in the discs of the lower part
-  pub sound-good : 2 * (t * t) ≤ q → ((p : ℕ) → p < h * w → t < ring p → near w h q disc p ≡ true → near w h q low p ≡ true) → (p : ℕ) → p < h * w → badHere w h q low up ring p ≡ false
-  sound-good lq same = near-good (λ p j l e. split (ltb t (ring p)) (λ b. let v : t < ring p = ltb-true t (ring p) b in same p l v (all p l .close v)) (λ b. few-near lq p j l e (ltb-false t (ring p) b)))
+  -- a ring is near by itself, or was seen to be near
+  pub sound-good : 2 * (t * t) ≤ q → ((p : ℕ) → p < h * w → t < ring p → near w h q low p ≡ true) → (p : ℕ) → p < h * w → badHere w h q low up ring p ≡ false
+  sound-good lq close = near-good (λ p j l e. split (ltb t (ring p)) (λ b. close p l (ltb-true t (ring p) b)) (λ b. few-near lq p j l e (ltb-false t (ring p) b)))
 
 -- a plane without rings has no bad one
 pub no-rings : (w h q : ℕ) (low up : Plane) (ring : ℕ → ℕ) (p : ℕ) → ring p ≤ 0 → badHere w h q low up ring p ≡ false

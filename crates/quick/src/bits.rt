@@ -1,11 +1,17 @@
-// Bits of words.
+// Bits, and those of words.
 ghost use mathlib.Core.Path.{_≡_};
-ghost use mathlib.Core.Bool.{true};
-ghost use mathlib.Core.Logic.{_⊎_};
-ghost use Prim.Native.Nat.{ℕ, _+_, _*_, _<_, _≤_};
+ghost use mathlib.Core.Bool.{not, _&&_, _||_};
+ghost use Prim.Native.Nat.{ℕ, _+_, _*_, _/_, _<_};
+ghost use lib.Dec.{eqb};
 ghost use lib.ListN.{length};
 ghost use Rattle.rules.specs.Images.{bitAt};
 ghost use Rattle.words.specs.Words.{bitOfWord, wordBit};
+
+pub fn both(a: bool, b: bool) -> bool
+    ensures { λ r. ⌜ r ≡ (a && b) ⌝ }
+{
+    if a { b } else { false }
+}
 
 pub fn bit(x: u64, k: usize) -> bool
     requires { ⌜ k < 64 ⌝ }
@@ -22,14 +28,6 @@ pub fn column_at(l: &[u64], c: usize) -> bool
     bit(l[c / 64], c % 64)
 }
 
-// Bit k alone, where v is not 0.
-pub fn alone(v: u16, k: usize) -> u64
-    requires { ⌜ k < 64 ⌝ }
-    ensures { λ r. ⌜ ((j : ℕ) → j < 64 → bitOfWord r j ≡ true → (j ≡ k) × (0 < v)) ⌝ }
-{
-    if v == 0 { 0 } else { 1u64 << (63 - k) }
-}
-
 // Byte b of a word.
 pub fn byte(x: u64, b: usize) -> u8
     requires { ⌜ b < 8 ⌝ }
@@ -41,7 +39,7 @@ pub fn byte(x: u64, b: usize) -> u8
 // The bits of x outside byte b, and those of y.
 pub fn patched(x: u64, y: u64, b: usize) -> u64
     requires { ⌜ b < 8 ⌝ }
-    ensures { λ r. ⌜ ((k : ℕ) → k < 64 → bitOfWord r k ≡ true → (bitOfWord y k ≡ true) ⊎ ((bitOfWord x k ≡ true) × ((8 * b ≤ k → k < 8 * b + 8 → ⊥)))) ⌝ }
+    ensures { λ r. ⌜ ((k : ℕ) → k < 64 → bitOfWord r k ≡ ((bitOfWord x k && not (eqb (k / 8) b)) || bitOfWord y k)) ⌝ }
 {
     (x & !(255u64 << (56 - 8 * b))) | y
 }

@@ -2,8 +2,8 @@
 // on: after a no the pixels are looked at one by one.
 pub mod bits;
 pub mod eights;
-pub mod hangs;
 pub mod layers;
+pub mod looks;
 pub mod marks;
 pub mod near;
 pub mod pair;
@@ -12,14 +12,43 @@ pub mod stack;
 pub mod steps;
 pub mod words64;
 
-// What is sure of a row or of a pair: that no ring is bad, and that nothing is unheld.
+use words::Row;
+
+// What is sure of a pair: that no ring is bad, and that nothing is unheld.
 pub struct Sure {
     pub rings: bool,
     pub held: bool,
 }
 
-// What 64 pixels tell: whether their rings are good, and which of them have one.
+// What the bytes of a pair tell, joined: its shadow, and the support that hangs over neither part nor support.
+pub struct Seen {
+    pub shadow: u8,
+    pub hung: u8,
+}
+
+// What 64 pixels tell: whether their rings are good, which of them have one, and a number that none of them exceeds.
 pub struct Told {
     pub good: bool,
     pub got: u64,
+    pub most: u16,
+}
+
+// What a row tells: whether its rings are good but for nearness, whether each pixel that hangs has one, and a number that none exceeds.
+pub struct Line {
+    pub rings: bool,
+    pub held: bool,
+    pub most: u16,
+}
+
+// The same of a row whose pixels with far rings, and perhaps others that have a ring, are those of `far`.
+pub struct Passed {
+    pub rings: bool,
+    pub held: bool,
+    pub far: Row,
+}
+
+// Whether far rings are near, and whether the lower layer is drawn in scratch by now.
+pub struct Close {
+    pub good: bool,
+    pub drawn: bool,
 }

@@ -45,7 +45,7 @@ fn pairs(
             q,
             t,
         );
-        if !crate::pair::both(s.rings, s.held) {
+        if !crate::bits::both(s.rings, s.held) {
             return false;
         }
         at = mid;

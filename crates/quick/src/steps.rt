@@ -79,6 +79,7 @@ pub fn pixels(
 {
     let at = r * w + x;
     let mut got: u64 = 0;
+    let mut most: u16 = 0;
     let mut k = from;
     while k < to {
         let v = rings[at + k];
@@ -86,11 +87,20 @@ pub fn pixels(
             k += 1;
         } else {
             if !good(rings, w, h, r, x, k, v, free, first) {
-                return Told { good: false, got };
+                return Told {
+                    good: false,
+                    got,
+                    most,
+                };
             }
-            got = got | crate::bits::alone(v, k);
+            got = got | words::single::bit(k);
+            most = most | v;
             k += 1;
         }
     }
-    Told { good: true, got }
+    Told {
+        good: true,
+        got,
+        most,
+    }
 }

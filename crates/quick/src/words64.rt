@@ -1,6 +1,6 @@
 // Rings that are good, by words: 64 columns without a free pixel are passed over at once, and so are eight whose rings are 1 at the first
 // pixels and else 0.
-use crate::Sure;
+use crate::Line;
 use crate::Told;
 ghost use mathlib.Core.Path.{_≡_};
 ghost use mathlib.Core.Bool.{true};
@@ -24,25 +24,35 @@ fn eights(
     requires { ⌜ (Sized w h × (length (now rings) ≡ h * w)) × ((r < h) × ((x + 64 ≤ w) × Ones (now ones))) ⌝ }
     ensures { λ t. ⌜ Tells w h (now (rings .entry)) r x 0 64 free first t ⌝ }
 {
-    let at = r * w + x;
     let mut got = first;
+    let mut most: u16 = 1;
+    let mut like = [false; 8];
+    if crate::eights::alike_bytes(rings, ones, &mut like, r * w + x, first) {
+        return Told {
+            good: true,
+            got,
+            most,
+        };
+    }
     let mut b = 0;
     while b < 8 {
-        if crate::eights::alike(rings, ones, at + 8 * b, crate::bits::byte(first, b)) {
+        if like[b] {
             b += 1;
         } else {
             let t = crate::steps::pixels(rings, w, h, r, x, 8 * b, 8 * b + 8, free, first);
             if !t.good {
-                return Told {
-                    good: false,
-                    got: 0,
-                };
+                return t;
             }
             got = crate::bits::patched(got, t.got, b);
+            most = most | t.most;
             b += 1;
         }
     }
-    Told { good: true, got }
+    Told {
+        good: true,
+        got,
+        most,
+    }
 }
 
 // The word at column x, of which the image may have all columns, some or none.
@@ -60,7 +70,11 @@ fn word(
     ensures { λ t. ⌜ Tells w h (now (rings .entry)) r x 0 64 free first t ⌝ }
 {
     if w <= x {
-        return Told { good: true, got: 0 };
+        return Told {
+            good: true,
+            got: 0,
+            most: 0,
+        };
     }
     if w < x + 64 {
         return crate::steps::pixels(rings, w, h, r, x, 0, w - x, free, first);
@@ -69,42 +83,51 @@ fn word(
         return Told {
             good: crate::marks::gather(rings, r * w + x, 64) == 0,
             got: 0,
+            most: 0,
         };
     }
     eights(rings, ones, w, h, r, x, free, first)
 }
 
-// Whether the rings of row r are good, by its free and its first pixels; and whether each pixel of `hang` has one.
+// Whether the rings of row r are good, by its free and its first pixels; and whether each pixel of `hang` has one. Those that have one
+// go to `got`.
 pub fn row(
     rings: &[u16],
     ones: &[u16],
     free: &[u64],
     first: &[u64],
     hang: &[u64],
+    got: &mut [u64],
     w: usize,
     h: usize,
     r: usize,
-) -> Sure
+) -> Line
     requires fits { ⌜ (Sized w h × (length (now rings) ≡ h * w)) × ((r < h) × Ones (now ones)) ⌝ }
-    requires rows { ⌜ (length (now free) ≡ 4) × ((length (now first) ≡ 4) × (length (now hang) ≡ 4)) ⌝ }
+    requires rows { ⌜ (length (now free) ≡ 4) × ((length (now first) ≡ 4) × ((length (now hang) ≡ 4) × (length (now got) ≡ 4))) ⌝ }
     ensures { λ s. ⌜ (s .rings ≡ true → (c : ℕ) → c < w → Good w h (wordBit (now (free .entry)) c) (wordBit (now (first .entry)) c) (now (rings .entry)) r c) ⌝ }
     ensures { λ s. ⌜ (s .held ≡ true → (c : ℕ) → c < w → wordBit (now (hang .entry)) c ≡ true → 0 < getD (now (rings .entry)) (r * w + c) 0) ⌝ }
+    ensures { λ s. ⌜ (s .rings ≡ true → (c : ℕ) → c < w → (getD (now (rings .entry)) (r * w + c) 0 ≤ s .most) × (0 < getD (now (rings .entry)) (r * w + c) 0 → wordBit (now (got .exit)) c ≡ true)) ⌝ }
 {
     let mut bare: u64 = 0;
+    let mut most: u16 = 0;
     let mut i = 0;
     while i < 4 {
         let t = word(rings, ones, w, h, r, i * 64, free[i], first[i]);
         if !t.good {
-            return Sure {
+            return Line {
                 rings: false,
                 held: false,
+                most,
             };
         }
         bare = bare | (hang[i] & !t.got);
+        most = most | t.most;
+        got[i] = t.got;
         i += 1;
     }
-    Sure {
+    Line {
         rings: true,
         held: bare == 0,
+        most,
     }
 }

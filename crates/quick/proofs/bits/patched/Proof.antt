@@ -4,9 +4,10 @@ use borrow.Author.Needs.{needs}
 use Rattle.quick.proofs.bits.patched.Statement.{statement}
 use Rattle.quick.proofs.bits.patched.Tie as tie
 
--- src/bits.rt:42:1
 returns : tie.Need-returns
-returns c = λ k l e. patched-bit (c .args .x) (c .args .y) (c .args .b) k (c .pre) l e
+returns c = λ k l. patched-bit (c .args .x) (c .args .y) (c .args .b) k (c .pre) l
 
 pub patched-spec : {M : Type 1} → statement M
-patched-spec = tie.close (tie.spec (λ c. search needs) (λ c. search needs) (λ c. search needs) returns)
+patched-spec =
+    tie.close
+    (tie.spec (λ c. search needs) (λ c. search needs) (λ c. search needs) returns)

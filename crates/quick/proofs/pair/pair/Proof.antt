@@ -1,70 +1,73 @@
 use Rattle.quick.specs.Holding.{all-rows}
-use Rattle.quick.specs.Hanging.{none-unheld}
-use Rattle.quick.specs.Layers.{near-drawn}
+use Rattle.quick.specs.Hanging.{no-shadow, all-held}
 use Rattle.quick.specs.Trust.{no-rings, sound-good}
-use Rattle.quick.specs.Sound.{Sound}
-use Rattle.places.specs.Search.{unheldHere}
+use Rattle.quick.specs.Sound.{Long, Sound}
+use Rattle.rules.specs.Images.{rowBytes}
+use Rattle.rules.specs.Planning.{shadow, near}
+use Rattle.laws.specs.Tests.{clash, and-l, and-r}
 use Rattle.places.specs.Rows.{bytes-fit, area-fit}
-use Rattle.planes.specs.Scratch.{seen}
 use Rattle.planes.specs.PlaneLaws.{zero-ready}
 use Rattle.image.specs.Rows.{packed}
 use borrow.Author.Tests.{eqb-true}
+use lib.ListN.{getD}
 use mathlib.Core.Path.{_≡_, ap, sym, _∙_}
-use Prim.Native.Nat.{ℕ, _*_}
-use mathlib.Core.Bool.{false}
-use lib.ListN.{getD, length-replicate}
+use Prim.Native.Nat.{ℕ, _+_, _*_, _<_}
+use mathlib.Core.Bool.{true, false}
 use native.Mathlib.Omega.{arith}
 use borrow.Author.Needs.{needs}
 use Rattle.quick.proofs.pair.pair.Statement.{statement}
 use Rattle.quick.proofs.pair.pair.Tie as tie
 
--- src/pair.rt:152:73
 row-bytes-requires : tie.Need-row-bytes-requires
-row-bytes-requires c κs = c .before .before .before .before .before .before .before .before .pre .0 .0 .0 .w-high
+row-bytes-requires c κs = c .before .before .before .before .before .before .before .pre .0 .0 .0 .w-high
 
--- src/pair.rt:152:69
-mul-mark : tie.Need-mul-mark
-mul-mark c = omega (arith, bytes-fit (c .before .before .before .before .before .before .before .before .before .args .w) (c .before .before .before .before .before .before .before .before .before .args .h) (c .row-bytes .result) (c .before .before .before .before .before .before .before .before .before .pre .0 .0 .0) (c .row-bytes .ensures .1))
+mul-look : tie.Need-mul-look
+mul-look c = omega (arith, bytes-fit (c .before .before .before .before .before .before .before .before .args .w) (c .before .before .before .before .before .before .before .before .args .h) (c .row-bytes .result) (c .before .before .before .before .before .before .before .before .pre .0 .0 .0) (c .row-bytes .ensures .1))
 
--- src/pair.rt:152:9
-mark-requires : tie.Need-mark-requires
-mark-requires c κs = (rw (c .row-bytes .ensures .0) (c .before .before .before .before .before .before .before .before .before .pre .1 .0), (bytes-fit (c .before .before .before .before .before .before .before .before .before .args .w) (c .before .before .before .before .before .before .before .before .before .args .h) (c .row-bytes .result) (c .before .before .before .before .before .before .before .before .before .pre .0 .0 .0) (c .row-bytes .ensures .1), omega (arith, length-replicate {A = ℕ} 33 0)))
+look-requires : tie.Need-look-requires
+look-requires c κs = rw (c .row-bytes .ensures .0) (c .before .before .before .before .before .before .before .before .pre .1 .0)
 
--- src/pair.rt:154:54
-mul-mark-2 : tie.Need-mul-mark-2
-mul-mark-2 c = omega (arith, area-fit (c .before .before .before .before .before .before .before .before .before .before .before .before .args .w) (c .before .before .before .before .before .before .before .before .before .before .before .before .args .h) (c .before .before .before .before .before .before .before .before .before .before .before .before .pre .0 .0 .0))
+mul-quiet : tie.Need-mul-quiet
+mul-quiet c = omega (arith, area-fit (c .before .before .before .before .before .before .before .before .before .before .before .args .w) (c .before .before .before .before .before .before .before .before .before .before .before .args .h) (c .before .before .before .before .before .before .before .before .before .before .before .pre .0 .0 .0))
 
--- src/pair.rt:154:9
-mark-requires-2 : tie.Need-mark-requires-2
-mark-requires-2 c κs = (area-fit (c .before .before .before .before .before .before .before .before .before .before .before .before .args .w) (c .before .before .before .before .before .before .before .before .before .before .before .before .args .h) (c .before .before .before .before .before .before .before .before .before .before .before .before .pre .0 .0 .0), (omega (arith, c .before .before .before .before .before .before .before .before .before .before .before .before .pre .0 .1 .1), omega (arith, length-replicate {A = ℕ} 257 0)))
+quiet-requires : tie.Need-quiet-requires
+quiet-requires c κs = omega (arith, c .before .before .before .before .before .before .before .before .before .before .before .pre .0 .1 .1)
 
--- src/pair.rt:156:9
 returns : tie.Need-returns
-returns c = ((λ e p l. no-rings (c .before .before .before .before .before .before .before .before .before .before .before .before .before .before .before .args .w) (c .before .before .before .before .before .before .before .before .before .before .before .before .before .before .before .args .h) (c .before .before .before .before .before .before .before .before .before .before .before .before .before .before .before .args .q .0) (packed (c .before .before .before .before .before .before .before .before .before .before .before .before .before .before .before .args .w) (c .before .before .before .before .before .before .before .before .before .before .before .before .before .before .before .args .low .now)) (packed (c .before .before .before .before .before .before .before .before .before .before .before .before .before .before .before .args .w) (c .before .before .before .before .before .before .before .before .before .before .before .before .before .before .before .args .up .now)) (λ o. getD (c .before .before .before .before .before .before .before .before .before .before .before .before .before .before .before .args .rings .now) o 0) p (omega (arith, c .before .before .mark2 .ensures p l .0, c .if1 .taken))), (λ e p l. none-unheld (c .before .before .before .before .before .before .before .before .before .before .before .before .before .before .before .args .w) (c .before .before .before .before .before .before .before .before .before .before .before .before .before .before .before .args .h) (c .before .before .before .before .before .before .before .before .before .before .before .before .before .before .before .args .h * c .before .before .before .before .before .before .row-bytes .result) (c .before .before .before .before .before .before .before .before .before .before .before .before .before .before .before .args .low .now) (c .before .before .before .before .before .before .before .before .before .before .before .before .before .before .before .args .up .now) (c .before .before .before .before .before .before .before .before .before .before .before .before .before .before .before .args .below .now) (c .before .before .before .before .before .before .before .before .before .before .before .before .before .before .before .args .above .now) (ap (λ (x : ℕ). c .before .before .before .before .before .before .before .before .before .before .before .before .before .before .before .args .h * x) (c .before .before .before .before .before .before .row-bytes .ensures .0)) (λ o. getD (c .before .before .before .before .before .before .before .before .before .before .before .before .before .before .before .args .rings .now) o 0) (c .before .before .before .before .before .mark .ensures .0 (eqb-true _ 0 e)) p l))
+returns c =
+    let a = c .before .before .before .before .before .before .before .before .before .before .before .before .before .args in
+    let n : a .h * c .before .before .before .before .before .row-bytes .result ≡ a .h * rowBytes (a .w) = ap (λ (b : ℕ). a .h * b) (c .before .before .before .before .before .row-bytes .ensures .0) in (
+      (λ e p l. no-rings (a .w) (a .h) (a .q .0) (packed (a .w) (a .low .now)) (packed (a .w) (a .up .now)) (λ o. getD (a .rings .now) o 0) p
+          (let z : 0 + p ≡ p = omega arith in omega (arith, rw z at (c .before .quiet .ensures e p l)))),
+      (λ e. all-held (a .w) (a .h) (a .h * c .before .before .before .before .before .row-bytes .result) n (a .low .now) (a .up .now) (a .below .now) (a .above .now) (λ o. getD (a .rings .now) o 0) (c .before .before .before .before .look .ensures .1 (eqb-true _ 0 e))
+          (λ p l s b. clash s (no-shadow (a .w) (a .h) (a .h * c .before .before .before .before .before .row-bytes .result) n (a .low .now) (a .up .now) (c .before .before .before .before .look .ensures .0 (c .before .before .if1 .taken)) p l))),
+    )
 
--- src/pair.rt:160:9
 rows-requires : tie.Need-rows-requires
-rows-requires c κs = ((c .before .before .before .before .before .before .before .before .before .before .before .before .before .before .before .before .before .before .before .pre .0 .0 .0, (c .before .before .before .before .before .before .before .before .before .before .before .before .before .before .before .before .before .before .before .pre .0 .1 .0, (c .before .before .before .before .before .before .before .before .before .before .before .before .before .before .before .before .before .before .before .pre .1 .0, c .before .before .before .before .before .before .before .before .before .before .before .before .before .before .before .before .before .before .before .pre .0 .1 .1))), ((c .before .before .before .before .before .before .before .before .before .before .before .before .before .before .before .before .before .before .before .pre .1 .1, (zero-ready (c .before .before .before .before .before .before .before .before .before .before .before .before .before .before .before .before .before .before .before .args .w) (c .before .before .before .before .before .before .before .before .before .before .before .before .before .before .before .before .before .before .before .args .h), c .before .before .before .before .before .before .before .before .before .before .before .before .before .before .before .before .before .before .before .pre .0 .0 .1 .1)), ((omega (arith, c .before .before .before .before .before .before .mark2 .kept .1 .0, length-replicate {A = ℕ} 257 0), λ p l. c .before .before .before .before .before .before .mark2 .ensures p l .1), (omega (arith, c .before .before .before .before .before .before .before .before .before .mark .kept .1 .1 .1 .1 .0, length-replicate {A = ℕ} 33 0), λ j l z. c .before .before .before .before .before .before .before .before .before .mark .ensures .1 j (omega (arith, ap (λ (x : ℕ). c .before .before .before .before .before .before .before .before .before .before .before .before .before .before .before .before .before .before .before .args .h * x) (c .before .before .before .before .before .before .before .before .before .before .row-bytes .ensures .0))) z))))
+rows-requires c κs =
+    let p = c .before .before .before .before .before .before .before .before .before .before .before .before .pre in
+    let L = p .1 .0 in (
+      (p .0 .0 .0, (p .0 .1 .0, (record { low-long = L .low-long; up-long = L .up-long; below-long = L .below-long; above-long = L .below-long }, p .0 .1 .1))),
+      (p .1 .1, (zero-ready (c .before .before .before .before .before .before .before .before .before .before .before .before .args .w) (c .before .before .before .before .before .before .before .before .before .before .before .before .args .h), p .0 .0 .1 .1)),
+    )
 
--- src/pair.rt:160:9
 returns-2 : tie.Need-returns-2
-returns-2 c = ((λ e. sound-good (c .before .before .before .before .before .before .before .before .before .before .before .before .before .before .before .before .before .before .before .before .args .w) (c .before .before .before .before .before .before .before .before .before .before .before .before .before .before .before .before .before .before .before .before .args .h) (c .before .before .before .before .before .before .before .before .before .before .before .before .before .before .before .before .before .before .before .before .args .q .0) (c .before .before .before .before .before .before .before .before .before .before .before .before .before .before .before .before .before .before .before .before .args .t) (seen (c .before .before .before .before .before .before .before .before .before .before .before .before .before .before .before .before .before .before .before .before .args .w) _) (packed (c .before .before .before .before .before .before .before .before .before .before .before .before .before .before .before .before .before .before .before .before .args .w) (c .before .before .before .before .before .before .before .before .before .before .before .before .before .before .before .before .before .before .before .before .args .low .now)) (packed (c .before .before .before .before .before .before .before .before .before .before .before .before .before .before .before .before .before .before .before .before .args .w) (c .before .before .before .before .before .before .before .before .before .before .before .before .before .before .before .before .before .before .before .before .args .up .now)) (λ o. getD (c .before .before .before .before .before .before .before .before .before .before .before .before .before .before .before .before .before .before .before .before .args .rings .now) o 0) (all-rows (c .before .before .before .before .before .before .before .before .before .before .before .before .before .before .before .before .before .before .before .before .args .w) (c .before .before .before .before .before .before .before .before .before .before .before .before .before .before .before .before .before .before .before .before .args .h) (λ p. Sound (c .before .before .before .before .before .before .before .before .before .before .before .before .before .before .before .before .before .before .before .before .args .w) (c .before .before .before .before .before .before .before .before .before .before .before .before .before .before .before .before .before .before .before .before .args .h) (c .before .before .before .before .before .before .before .before .before .before .before .before .before .before .before .before .before .before .before .before .args .q .0) (c .before .before .before .before .before .before .before .before .before .before .before .before .before .before .before .before .before .before .before .before .args .t) (seen (c .before .before .before .before .before .before .before .before .before .before .before .before .before .before .before .before .before .before .before .before .args .w) _) (packed (c .before .before .before .before .before .before .before .before .before .before .before .before .before .before .before .before .before .before .before .before .args .w) (c .before .before .before .before .before .before .before .before .before .before .before .before .before .before .before .before .before .before .before .before .args .low .now)) (packed (c .before .before .before .before .before .before .before .before .before .before .before .before .before .before .before .before .before .before .before .before .args .w) (c .before .before .before .before .before .before .before .before .before .before .before .before .before .before .before .before .before .before .before .before .args .up .now)) (λ o. getD (c .before .before .before .before .before .before .before .before .before .before .before .before .before .before .before .before .before .before .before .before .args .rings .now) o 0) p) (λ y ly k lk. c .rows .ensures .0 e y ly k lk)) (c .before .before .before .before .before .before .before .before .before .before .before .before .before .before .before .before .before .before .before .before .pre .0 .0 .1 .0) (λ p l v n. absurd (omega (arith, c .before .before .before .before .before .before .before .mark2 .ensures p l .0, c .before .before .before .before .if2 .taken)))), (λ e. all-rows (c .before .before .before .before .before .before .before .before .before .before .before .before .before .before .before .before .before .before .before .before .args .w) (c .before .before .before .before .before .before .before .before .before .before .before .before .before .before .before .before .before .before .before .before .args .h) (λ p. unheldHere (packed (c .before .before .before .before .before .before .before .before .before .before .before .before .before .before .before .before .before .before .before .before .args .w) (c .before .before .before .before .before .before .before .before .before .before .before .before .before .before .before .before .before .before .before .before .args .low .now)) (packed (c .before .before .before .before .before .before .before .before .before .before .before .before .before .before .before .before .before .before .before .before .args .w) (c .before .before .before .before .before .before .before .before .before .before .before .before .before .before .before .before .before .before .before .before .args .up .now)) (packed (c .before .before .before .before .before .before .before .before .before .before .before .before .before .before .before .before .before .before .before .before .args .w) (c .before .before .before .before .before .before .before .before .before .before .before .before .before .before .before .before .before .before .before .before .args .below .now)) (packed (c .before .before .before .before .before .before .before .before .before .before .before .before .before .before .before .before .before .before .before .before .args .w) (c .before .before .before .before .before .before .before .before .before .before .before .before .before .before .before .before .before .before .before .before .args .above .now)) (λ o. getD (c .before .before .before .before .before .before .before .before .before .before .before .before .before .before .before .before .before .before .before .before .args .rings .now) o 0) p ≡ false) (λ y ly k lk. c .rows .ensures .1 e y ly k lk)))
-
--- src/pair.rt:162:5
-read-requires : tie.Need-read-requires
-read-requires c κs = (c .before .before .before .before .before .before .before .before .before .before .before .before .before .before .before .before .before .pre .0 .0 .0, (c .before .before .before .before .before .before .before .before .before .before .before .before .before .before .before .before .before .pre .0 .1 .0, zero-ready (c .before .before .before .before .before .before .before .before .before .before .before .before .before .before .before .before .before .args .w) (c .before .before .before .before .before .before .before .before .before .before .before .before .before .before .before .before .before .args .h)))
-
--- src/pair.rt:163:5
-rows-requires-2 : tie.Need-rows-requires-2
-rows-requires-2 c κs = ((c .before .before .before .before .before .before .before .before .before .before .before .before .before .before .before .before .before .before .before .before .before .before .pre .0 .0 .0, (c .before .before .before .before .before .before .before .before .before .before .before .before .before .before .before .before .before .before .before .before .before .before .pre .0 .1 .0, (c .before .before .before .before .before .before .before .before .before .before .before .before .before .before .before .before .before .before .before .before .before .before .pre .1 .0, c .before .before .before .before .before .before .before .before .before .before .before .before .before .before .before .before .before .before .before .before .before .before .pre .0 .1 .1))), ((c .before .before .before .before .before .before .before .before .before .before .before .before .before .before .before .before .before .before .before .before .before .before .pre .1 .1, (c .before .before .before .before .read .ensures .ready, c .before .before .before .before .before .before .before .before .before .before .before .before .before .before .before .before .before .before .before .before .before .before .pre .0 .0 .1 .1)), ((omega (arith, c .before .before .before .before .before .before .before .before .before .mark2 .kept .1 .0, length-replicate {A = ℕ} 257 0), λ p l. c .before .before .before .before .before .before .before .before .before .mark2 .ensures p l .1), (omega (arith, c .before .before .before .before .before .before .before .before .before .before .before .before .mark .kept .1 .1 .1 .1 .0, length-replicate {A = ℕ} 33 0), λ j l z. c .before .before .before .before .before .before .before .before .before .before .before .before .mark .ensures .1 j (omega (arith, ap (λ (x : ℕ). c .before .before .before .before .before .before .before .before .before .before .before .before .before .before .before .before .before .before .before .before .before .before .args .h * x) (c .before .before .before .before .before .before .before .before .before .before .before .before .before .row-bytes .ensures .0))) z))))
-
--- src/pair.rt:133:1
-returns-3 : tie.Need-returns-3
-returns-3 c = ((λ e. sound-good (c .before .before .before .before .before .before .before .before .before .before .before .before .before .before .before .before .before .before .before .before .before .before .before .args .w) (c .before .before .before .before .before .before .before .before .before .before .before .before .before .before .before .before .before .before .before .before .before .before .before .args .h) (c .before .before .before .before .before .before .before .before .before .before .before .before .before .before .before .before .before .before .before .before .before .before .before .args .q .0) (c .before .before .before .before .before .before .before .before .before .before .before .before .before .before .before .before .before .before .before .before .before .before .before .args .t) (seen (c .before .before .before .before .before .before .before .before .before .before .before .before .before .before .before .before .before .before .before .before .before .before .before .args .w) _) (packed (c .before .before .before .before .before .before .before .before .before .before .before .before .before .before .before .before .before .before .before .before .before .before .before .args .w) (c .before .before .before .before .before .before .before .before .before .before .before .before .before .before .before .before .before .before .before .before .before .before .before .args .low .now)) (packed (c .before .before .before .before .before .before .before .before .before .before .before .before .before .before .before .before .before .before .before .before .before .before .before .args .w) (c .before .before .before .before .before .before .before .before .before .before .before .before .before .before .before .before .before .before .before .before .before .before .before .args .up .now)) (λ o. getD (c .before .before .before .before .before .before .before .before .before .before .before .before .before .before .before .before .before .before .before .before .before .before .before .args .rings .now) o 0) (all-rows (c .before .before .before .before .before .before .before .before .before .before .before .before .before .before .before .before .before .before .before .before .before .before .before .args .w) (c .before .before .before .before .before .before .before .before .before .before .before .before .before .before .before .before .before .before .before .before .before .before .before .args .h) (λ p. Sound (c .before .before .before .before .before .before .before .before .before .before .before .before .before .before .before .before .before .before .before .before .before .before .before .args .w) (c .before .before .before .before .before .before .before .before .before .before .before .before .before .before .before .before .before .before .before .before .before .before .before .args .h) (c .before .before .before .before .before .before .before .before .before .before .before .before .before .before .before .before .before .before .before .before .before .before .before .args .q .0) (c .before .before .before .before .before .before .before .before .before .before .before .before .before .before .before .before .before .before .before .before .before .before .before .args .t) (seen (c .before .before .before .before .before .before .before .before .before .before .before .before .before .before .before .before .before .before .before .before .before .before .before .args .w) _) (packed (c .before .before .before .before .before .before .before .before .before .before .before .before .before .before .before .before .before .before .before .before .before .before .before .args .w) (c .before .before .before .before .before .before .before .before .before .before .before .before .before .before .before .before .before .before .before .before .before .before .before .args .low .now)) (packed (c .before .before .before .before .before .before .before .before .before .before .before .before .before .before .before .before .before .before .before .before .before .before .before .args .w) (c .before .before .before .before .before .before .before .before .before .before .before .before .before .before .before .before .before .before .before .before .before .before .before .args .up .now)) (λ o. getD (c .before .before .before .before .before .before .before .before .before .before .before .before .before .before .before .before .before .before .before .before .before .before .before .args .rings .now) o 0) p) (λ y ly k lk. c .rows2 .ensures .0 e y ly k lk)) (c .before .before .before .before .before .before .before .before .before .before .before .before .before .before .before .before .before .before .before .before .before .before .before .pre .0 .0 .1 .0) (λ p l v n. sym (near-drawn (c .before .before .before .before .before .before .before .before .before .before .before .before .before .before .before .before .before .before .before .before .before .before .before .args .w) (c .before .before .before .before .before .before .before .before .before .before .before .before .before .before .before .before .before .before .before .before .before .before .before .args .h) (c .before .before .before .before .before .before .before .before .before .before .before .before .before .before .before .before .before .before .before .before .before .before .before .args .q .0) (c .before .before .before .before .before .before .before .before .before .before .before .before .before .before .before .before .before .before .before .before .before .before .before .args .low .now) _ (c .before .before .before .before .before .read .ensures) p) ∙ n)), (λ e. all-rows (c .before .before .before .before .before .before .before .before .before .before .before .before .before .before .before .before .before .before .before .before .before .before .before .args .w) (c .before .before .before .before .before .before .before .before .before .before .before .before .before .before .before .before .before .before .before .before .before .before .before .args .h) (λ p. unheldHere (packed (c .before .before .before .before .before .before .before .before .before .before .before .before .before .before .before .before .before .before .before .before .before .before .before .args .w) (c .before .before .before .before .before .before .before .before .before .before .before .before .before .before .before .before .before .before .before .before .before .before .before .args .low .now)) (packed (c .before .before .before .before .before .before .before .before .before .before .before .before .before .before .before .before .before .before .before .before .before .before .before .args .w) (c .before .before .before .before .before .before .before .before .before .before .before .before .before .before .before .before .before .before .before .before .before .before .before .args .up .now)) (packed (c .before .before .before .before .before .before .before .before .before .before .before .before .before .before .before .before .before .before .before .before .before .before .before .args .w) (c .before .before .before .before .before .before .before .before .before .before .before .before .before .before .before .before .before .before .before .before .before .before .before .args .below .now)) (packed (c .before .before .before .before .before .before .before .before .before .before .before .before .before .before .before .before .before .before .before .before .before .before .before .args .w) (c .before .before .before .before .before .before .before .before .before .before .before .before .before .before .before .before .before .before .before .before .before .before .before .args .above .now)) (λ o. getD (c .before .before .before .before .before .before .before .before .before .before .before .before .before .before .before .before .before .before .before .before .before .before .before .args .rings .now) o 0) p ≡ false) (λ y ly k lk. c .rows2 .ensures .1 e y ly k lk)))
+returns-2 c =
+    let a = c .before .before .before .before .before .before .before .before .before .before .before .before .before .before .before .before .args in
+    let n : a .h * c .before .before .before .before .before .before .before .before .row-bytes .result ≡ a .h * rowBytes (a .w) = ap (λ (b : ℕ). a .h * b) (c .before .before .before .before .before .before .before .before .row-bytes .ensures .0) in
+    let ring : ℕ → ℕ = λ o. getD (a .rings .now) o 0 in (
+      (λ e.
+          let all = all-rows (a .w) (a .h) (λ p. Sound (a .w) (a .h) (packed (a .w) (a .low .now)) (packed (a .w) (a .up .now)) ring p
+          × (a .t < ring p → near (a .w) (a .h) (a .q .0) (packed (a .w) (a .low .now)) p ≡ true)) (c .before .before .before .rows .ensures .0 e) in
+          sound-good (a .w) (a .h) (a .q .0) (a .t) (packed (a .w) (a .low .now)) (packed (a .w) (a .up .now)) ring (λ p l. all p l .0) (c .before .before .before .before .before .before .before .before .before .before .before .before .before .before .before .before .pre .0 .0 .1 .0) (λ p l. all p l .1)),
+      (λ e.
+          let b = sym (c .both .ensures) ∙ e in
+          all-held (a .w) (a .h) (a .h * c .before .before .before .before .before .before .before .before .row-bytes .result) n (a .low .now) (a .up .now) (a .below .now) (a .above .now) ring (c .before .before .before .before .before .before .before .look .ensures .1 (eqb-true _ 0 (and-r (c .before .before .before .rows .result .held) _ b)))
+          (all-rows (a .w) (a .h) (λ p. shadow (packed (a .w) (a .low .now)) (packed (a .w) (a .up .now)) p ≡ true → packed (a .w) (a .below .now) p ≡ false → 0 < ring p)
+          (c .before .before .before .rows .ensures .1 (and-l (c .before .before .before .rows .result .held) _ b)))),
+    )
 
 pub pair-spec : {M : Type 1} → statement M
 pair-spec =
     tie.close
-    (tie.spec (λ c. search needs) row-bytes-requires mul-mark mark-requires (λ c. search needs) mul-mark-2 mark-requires-2 returns
-    (λ c. search needs) (λ c. search needs) (λ c. search needs) rows-requires returns-2 (λ c. search needs) read-requires
-    (λ c. search needs) (λ c. search needs) (λ c. search needs) rows-requires-2 returns-3)
+    (tie.spec row-bytes-requires mul-look look-requires mul-quiet quiet-requires returns (λ c. search needs) rows-requires (λ c κs. search needs) returns-2)

@@ -1,23 +1,14 @@
 use mathlib.Core.Path.{_∙_, ap₂}
 use mathlib.Core.Bool.{Bool, not, _&&_}
-use Rattle.quick.specs.Holding.{four-words}
+use Rattle.quick.specs.Sound.{shadowPart}
 use native.Mathlib.Omega.{arith}
 use borrow.Author.Needs.{needs}
 use Rattle.quick.proofs.rows.shadow_row.Statement.{statement}
 use Rattle.quick.proofs.rows.shadow_row.Tie as tie
 
--- src/rows.rt:65:9
 returns : tie.Need-returns
-returns c = λ k. c .but-not .ensures k ∙ ap₂ (λ (a b : Bool). a && not b) (four-words (c .before .before .before .before .before .before .before .before .before .before .before .before .args .up .now) (c .before .before .before .before .before .before .before .before .before .before .before .before .args .a) (c .before .before .before .before .before .before .before .before .before .before .before .before .args .n) _ _ _ _ (c .before .before .before .before .before .before .before .before .before .if1 .taken) (c .before .before .before .before .word5 .ensures) (c .before .before .before .word6 .ensures) (c .before .before .word7 .ensures) (c .before .word8 .ensures) k) (four-words (c .before .before .before .before .before .before .before .before .before .before .before .before .args .low .now) (c .before .before .before .before .before .before .before .before .before .before .before .before .args .a) (c .before .before .before .before .before .before .before .before .before .before .before .before .args .n) _ _ _ _ (c .before .before .before .before .before .before .before .before .before .if1 .taken) (c .before .before .before .before .before .before .before .before .word .ensures) (c .before .before .before .before .before .before .before .word2 .ensures) (c .before .before .before .before .before .before .word3 .ensures) (c .before .before .before .before .before .word4 .ensures) k)
-
--- src/rows.rt:50:1
-returns-2 : tie.Need-returns-2
-returns-2 c = λ k. c .but-not2 .ensures k ∙ ap₂ (λ (a b : Bool). a && not b) (c .before .before .read .ensures k) (c .before .read2 .ensures k)
+unfolding shadowPart
+returns c = λ k. c .but-not .ensures k ∙ ap₂ (λ (a b : Bool). a && not b) (c .before .before .read .ensures k) (c .before .read2 .ensures k)
 
 pub shadow-row-spec : {M : Type 1} → statement M
-shadow-row-spec =
-    tie.close
-    (tie.spec (λ c κs. search needs) (λ c. search needs) (λ c κs. search needs) (λ c. search needs) (λ c κs. search needs)
-    (λ c. search needs) (λ c κs. search needs) (λ c κs. search needs) (λ c. search needs) (λ c κs. search needs) (λ c. search needs)
-    (λ c κs. search needs) (λ c. search needs) (λ c κs. search needs) (λ c κs. search needs) returns (λ c κs. search needs)
-    (λ c κs. search needs) (λ c κs. search needs) returns-2)
+shadow-row-spec = tie.close (tie.spec (λ c κs. search needs) (λ c κs. search needs) (λ c κs. search needs) returns)

@@ -1,9 +1,8 @@
-use Rattle.quick.specs.Joined.{step-fits, good-none, quiet-at}
+use Rattle.quick.specs.Joined.{step-fits, quiet-at, short-told, quiet-told}
 use Rattle.quick.specs.BitLaws.{bit-zero}
 use Rattle.places.specs.Planes.{in-plane}
-use Rattle.laws.specs.Tests.{clash}
 use borrow.Author.Tests.{eqb-true}
-use Prim.Native.Nat.{_+_, _*_}
+use Prim.Native.Nat.{ℕ, _+_, _*_, _<_}
 use native.Mathlib.Omega.{arith}
 use borrow.Author.Needs.{needs}
 use Rattle.quick.proofs.words64.word.Statement.{statement}
@@ -11,7 +10,7 @@ use Rattle.quick.proofs.words64.word.Tie as tie
 
 -- src/words64.rt:60:9
 returns : tie.Need-returns
-returns c = record { fine = λ e k a b l. absurd (omega arith); has = λ k l e. clash e (bit-zero k) }
+returns c = record { fine = λ e k a b l. absurd (omega arith); gets = λ e. record { has = λ k a b l. absurd (omega arith); only = λ k l out. bit-zero k }; most = λ e k a b l. absurd (omega arith) }
 
 -- src/words64.rt:63:9
 pixels-requires : tie.Need-pixels-requires
@@ -19,7 +18,7 @@ pixels-requires c κs = (c .before .before .before .before .pre .0, (c .before .
 
 -- src/words64.rt:63:9
 returns-2 : tie.Need-returns-2
-returns-2 c = record { fine = λ e k a b l. c .pixels .ensures .fine e k a (omega arith) l; has = c .pixels .ensures .has }
+returns-2 c = short-told (c .before .before .before .before .before .args .w) (c .before .before .before .before .before .args .h) (c .before .before .before .before .before .args .rings .now) (c .before .before .before .before .before .args .r) (c .before .before .before .before .before .args .x) (c .before .before .before .before .before .args .free) (c .before .before .before .before .before .args .first) (c .pixels .result) (omega arith) (c .pixels .ensures)
 
 -- src/words64.rt:67:47
 mul-gather : tie.Need-mul-gather
@@ -35,7 +34,9 @@ gather-requires c κs = omega (arith, in-plane (c .before .before .before .befor
 
 -- src/words64.rt:66:9
 returns-3 : tie.Need-returns-3
-returns-3 c = record { fine = λ e k a b l. good-none (c .before .before .before .before .before .before .args .w) (c .before .before .before .before .before .before .args .h) _ _ (c .before .before .before .before .before .before .args .rings .now) (c .before .before .before .before .before .before .args .r) (c .before .before .before .before .before .before .args .x + k) (quiet-at (c .before .before .before .before .before .before .args .rings .now) (c .before .before .before .before .before .before .args .r * c .before .before .before .before .before .before .args .w) (c .before .before .before .before .before .before .args .x) 64 (c .gather .result) k (eqb-true _ 0 e) (c .gather .ensures) b); has = λ k l e. clash e (bit-zero k) }
+returns-3 c =
+    let a = c .before .before .before .before .before .before .args in
+    quiet-told (a .w) (a .h) (a .rings .now) (a .r) (a .x) (a .free) (a .first) _ (λ e k b. quiet-at (a .rings .now) (a .r * a .w) (a .x) 64 (c .gather .result) k (eqb-true _ 0 e) (c .gather .ensures) b)
 
 -- src/words64.rt:71:5
 eights-requires : tie.Need-eights-requires
