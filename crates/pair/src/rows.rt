@@ -24,8 +24,9 @@ fn find_row(
     ensures { λ r. ⌜ FoundRow y n last r (now (low .entry)) (now (up .entry)) (now (left .entry)) (now (left .exit)) (now (seed .entry)) (now (seed .exit)) ⌝ }
 {
     let k = y + 33;
-    let u = words::rows::read(up, y * n, n);
-    let l = words::rows::read(low, y * n, n);
+    let both = words::rows::read_two(low, up, y * n, n);
+    let u = both.up;
+    let l = both.low;
     planes::rows::put(seed, k, words::rows::both(l, u));
     let s = words::rows::but_not(u, l);
     if !words::rows::any(s) {

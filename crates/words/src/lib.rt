@@ -10,3 +10,9 @@ pub struct Row {
     pub c: u64,
     pub d: u64,
 }
+
+// The same row of two layers.
+pub struct Two {
+    pub low: Row,
+    pub up: Row,
+}

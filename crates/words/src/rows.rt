@@ -1,5 +1,6 @@
 // Rows: reading and writing them, and operations on all their columns at once.
 use crate::Row;
+use crate::Two;
 use rules::Pixels;
 ghost use mathlib.Core.Path.{_≡_};
 ghost use mathlib.Core.List.{[], _∷_};
@@ -47,19 +48,42 @@ fn read_short(s: &[u8], at: usize, n: usize) -> Row
     Row { a, b, c, d }
 }
 
+// A row of 32 bytes from `at` on.
+fn whole(s: &[u8], at: usize) -> Row
+    requires { ⌜ at + 32 ≤ length (now s) ⌝ }
+    ensures { λ r. ⌜ ((c : ℕ) → column r c ≡ rowPart (now (s .entry)) at 32 c) ⌝ }
+{
+    let a = crate::bytes::word(s, at);
+    let b = crate::bytes::word(s, at + 8);
+    let c = crate::bytes::word(s, at + 16);
+    let d = crate::bytes::word(s, at + 24);
+    Row { a, b, c, d }
+}
+
 // A row of n bytes from `at` on.
 pub fn read(s: &[u8], at: usize, n: usize) -> Row
     requires { ⌜ (at + n ≤ length (now s)) × (n ≤ 32) ⌝ }
     ensures { λ r. ⌜ ((c : ℕ) → column r c ≡ rowPart (now (s .entry)) at n c) ⌝ }
 {
     if n == 32 {
-        let a = crate::bytes::word(s, at);
-        let b = crate::bytes::word(s, at + 8);
-        let c = crate::bytes::word(s, at + 16);
-        let d = crate::bytes::word(s, at + 24);
-        return Row { a, b, c, d };
+        return whole(s, at);
     }
     read_short(s, at, n)
+}
+
+// The same row of two layers. Its two calls of `read_short` keep that one out of `read`, which is then small enough to be inlined.
+pub fn read_two(low: &[u8], up: &[u8], at: usize, n: usize) -> Two
+    requires { ⌜ (at + n ≤ length (now low)) × (at + n ≤ length (now up)) × (n ≤ 32) ⌝ }
+    ensures { λ r. ⌜ ((c : ℕ) → (column (r .low) c ≡ rowPart (now (low .entry)) at n c) × (column (r .up) c ≡ rowPart (now (up .entry)) at n c)) ⌝ }
+{
+    if n == 32 {
+        let l = whole(low, at);
+        let u = whole(up, at);
+        return Two { low: l, up: u };
+    }
+    let l = read_short(low, at, n);
+    let u = read_short(up, at, n);
+    Two { low: l, up: u }
 }
 
 // The row that stands at word i.
