@@ -3,10 +3,10 @@ use mathlib.Core.Path.{_≡_, refl, sym, ap, ap₂, subst, _∙_}
 use mathlib.Core.Bool.{Bool, true, false, not, _&&_, _||_}
 use mathlib.Core.List.{List}
 use Prim.Native.Nat.{ℕ, suc, _+_, _-_, _*_, _/_, _%_, _<_, _≤_, min}
-use native.Mathlib.Nat.{div-add-mod'}
+use native.Mathlib.Nat.{div-add-mod', add-mul}
 use native.Mathlib.Omega.{arith}
 use borrow.Author.Tests.{ltb-true, ltb-false, lt-ltb, eqb-true, eqb-false, ne-eqb, leb-true}
-use lib.Arith.{digits-div, digits-mod}
+use lib.Arith.{digits-lt, digits-div, digits-mod}
 use lib.Dec.{ltb, eqb, leb}
 use lib.ListN.{getD, length}
 use Rattle.rules.specs.Images.{Plane, rowBytes, bitAt}
@@ -24,11 +24,22 @@ use Rattle.words.specs.WordLaws.{whole-row, first-word}
 use Rattle.places.specs.Search.{unheldHere}
 use Rattle.places.specs.Planes.{in-plane}
 use Rattle.places.specs.Rows.{bytes-in, byte-of}
-use Rattle.quick.specs.Sound.{Good, Beside, Sound, seedPart, shadowPart, Row-sound, Row-held}
+use Rattle.quick.specs.Sound.{Good, Beside, Sound, seedPart, shadowPart, Long, Shadeless, Bare, Row-sound, Row-held}
+
+row-of : (y a w c : ℕ) → a ≤ y → a * w + ((y - a) * w + c) ≡ y * w + c
+row-of y a w c l = let z : a + (y - a) ≡ y = omega arith in let e : a * w + (y - a) * w ≡ y * w = sym (add-mul a (y - a) w) ∙ ap (λ (n : ℕ). n * w) z in omega arith
 
 -- a row's bytes lie in its plane
 pub row-room : (w h y rb len : ℕ) → y < h → rb ≡ rowBytes w → h * rowBytes w ≤ len → y * rb + rb ≤ len
 row-room w h y rb len ly er el = omega (arith, bytes-in w h y (y * rb) rb (h * rowBytes w) refl er ly refl)
+
+-- a row of 32 bytes by its four words
+pub four-words : (s : List ℕ) (at a b c d : ℕ) → Digits 64 a (at * 8) (bitOf s) → Digits 64 b ((at + 8) * 8) (bitOf s) → Digits 64 c ((at + 16) * 8) (bitOf s) → Digits 64 d ((at + 24) * 8) (bitOf s)
+    → (k : ℕ) → column (record { a = a; b = b; c = c; d = d }) k ≡ rowPart s at 32 k
+unfolding column
+four-words s at a b c d A B C D =
+    columns a b c d (rowPart s at 32) (first-word s at 32 a (omega arith) A) (whole-row s at 32 1 b (omega arith) B) (whole-row s at 32 2 c (omega arith) C) (whole-row s at 32 3 d (omega arith) D)
+    (λ k h. part-end s at 32 k (omega arith) h)
 
 part-out : (s : List ℕ) (at n c : ℕ) → rowPart s at n c ≡ true → (c < n * 8) × (bitOf s (at * 8 + c) ≡ true)
 unfolding rowPart
@@ -58,14 +69,8 @@ module _ (w h rb r : ℕ) (er : rb ≡ rowBytes w) where
   unfolding shadow shadowPart
   shadow-part low up c l = rw (packed-part up r c l, packed-part low r c l)
 
-  -- a row without shadow and without rings
-  pub bare-sound : (t : ℕ) (f : Plane) (low up rings : List ℕ) → ((c : ℕ) → c < w → getD rings (r * w + c) 0 ≡ 0) → Row-sound w h t f low up rings r
-  bare-sound t f low up rings none c l =
-      let e = none c l in
-      (record { free = λ p. absurd (omega arith); first = λ p. absurd (omega arith); leans = λ p. absurd (omega arith) }, λ p. absurd (omega arith))
-
-  pub bare-held : (low up below rings : List ℕ) → ((c : ℕ) → shadowPart low up (r * rb) rb c ≡ false) → Row-held w low up below rings r
-  bare-held low up below rings none c l s b = clash s (shadow-part low up c l ∙ none c)
+  pub shadeless : (low up : List ℕ) (f : ℕ → Bool) → ((c : ℕ) → f c ≡ shadowPart low up (r * rb) rb c) → ((c : ℕ) → f c ≡ false) → Shadeless w low up r
+  shadeless low up f is none c l = shadow-part low up c l ∙ sym (is c) ∙ none c
 
   -- a shadow pixel without support below hangs
   pub hung-held : (low up below rings : List ℕ) (sh be ha : ℕ → Bool) → ((c : ℕ) → sh c ≡ shadowPart low up (r * rb) rb c) → ((c : ℕ) → be c ≡ rowPart below (r * rb) rb c) →
@@ -148,6 +153,28 @@ module _ (w h rb r : ℕ) (er : rb ≡ rowBytes w) where
                 );
           }
 
+-- a row without rings is sound, and one without shadow held
+pub bare-sound : (w h t r : ℕ) (f : Plane) (low up rings : List ℕ) → Bare w rings r → Row-sound w h t f low up rings r
+bare-sound w h t r f low up rings none c l =
+    let e = none c l in
+    (record { free = λ p. absurd (omega arith); first = λ p. absurd (omega arith); leans = λ p. absurd (omega arith) }, λ p. absurd (omega arith))
+
+pub bare-held : (w r : ℕ) (low up below rings : List ℕ) → Shadeless w low up r → Row-held w low up below rings r
+bare-held w r low up below rings none c l s b = clash s (none c l)
+
+-- rows from a up to b, and rows before a
+pub rows-more : (P : ℕ → Type 0) (a b : ℕ) → ((y : ℕ) → y < a → P y) → ((y : ℕ) → a ≤ y → y < b → P y) → (y : ℕ) → y < b → P y
+rows-more P a b old new y l = split (ltb y a) (λ t. old y (ltb-true y a t)) (λ t. new y (ltb-false y a t) l)
+
+pub rows-end : (a b w : ℕ) → a ≤ b → a * w + (b - a) * w ≡ b * w
+rows-end a b w l = let z : a + (b - a) ≡ b = omega arith in sym (add-mul a (b - a) w) ∙ ap (λ (n : ℕ). n * w) z
+
+-- the rings of a stretch of rows
+pub quiet-rows : (w a b : ℕ) (rings : List ℕ) → ((j : ℕ) → j < (b - a) * w → getD rings (a * w + j) 0 ≡ 0) → (y : ℕ) → a ≤ y → y < b → Bare w rings y
+quiet-rows w a b rings none y lo hi c l =
+    let z : a * w + ((y - a) * w + c) ≡ y * w + c = row-of y a w c lo in
+    rw z at (none ((y - a) * w + c) (digits-lt (omega arith) l))
+
 -- a row that was put into four words
 pub put-four : (g was out : ℕ → Bool) → Within (0 * 64) ((0 + 4) * 64) (λ j. g (j - 0 * 64)) was out → (c : ℕ) → c < 256 → out c ≡ g c
 put-four g was out W c l = W .inner c (omega arith) (omega arith) ∙ ap g (omega arith)
@@ -158,3 +185,7 @@ good-same w h a b a′ b′ rings r c e f g = rw (← e, ← f) g
 -- all pixels of all rows
 pub all-rows : (w h : ℕ) (P : ℕ → Type 0) → ((y : ℕ) → y < h → (c : ℕ) → c < w → P (y * w + c)) → (p : ℕ) → p < h * w → P p
 all-rows w h P all p l = let (lr, lc) = digits-in p h w l in subst P (div-add-mod' p w) (all (p / w) lr (p % w) lc)
+
+-- the two layers of the part
+pub low-long : {n : ℕ} {low up below above : List ℕ} → Long n low up below above → Long n low up low low
+low-long l = record { low-long = l .low-long; up-long = l .up-long; below-long = l .low-long; above-long = l .low-long }

@@ -2,7 +2,7 @@
 use mathlib.Core.Path.{_≡_, refl, sym, ap, subst, _∙_}
 use mathlib.Core.Bool.{Bool, true, false, not, _&&_, _||_, cond}
 use mathlib.Core.List.{List}
-use Prim.Native.Nat.{ℕ, _+_, _-_, _*_, _/_, _%_, _^_, _<_, _≤_}
+use Prim.Native.Nat.{ℕ, zero, suc, _+_, _-_, _*_, _/_, _%_, _^_, _<_, _≤_}
 use native.Mathlib.Omega.{arith}
 use borrow.Author.Count.{below-more}
 use native.Mathlib.Decide.{decLt}
@@ -85,12 +85,6 @@ ones-at l o m at k lm e lk =
 -- a byte of the word, and its rings
 pub alike-byte : (rings : List ℕ) (x m b v : ℕ) → ((j : ℕ) → j < 8 → bitAt v j ≡ bitOfWord m (8 * b + j)) → ((k : ℕ) → k < 8 → getD rings (x + 8 * b + k) 0 ≡ bit (bitAt v k)) → Alike rings x m b
 alike-byte rings x m b v byte like k l = like k l ∙ ap bit (byte k l)
-
--- one more flag is stored
-pub stored-flag : (P : ℕ → Type 0) (l : List Bool) (b : ℕ) (v : Bool) → b < length l → ((k : ℕ) → k < b → getD l k false ≡ true → P k) → (v ≡ true → P b) →
-    (k : ℕ) → k < b + 1 → getD (set l b v) k false ≡ true → P k
-stored-flag P l b v lb old new = below-more (λ k. getD (set l b v) k false ≡ true → P k) b
-    (λ k h e. old k h (sym (getD-set-other l b k v false (λ z. omega arith)) ∙ e)) (λ e. new (sym (getD-set-same l b v false lb) ∙ e))
 
 -- The neighbours --------------------------------------------------------------------------------------------
 
@@ -212,16 +206,30 @@ module _ (w h : ℕ) (rings : List ℕ) (r x free first b : ℕ) where
         (λ k l out. patch k l ∙ rw (ne-eqb (k / 8) b (λ z. out (omega arith) (omega arith)), T .gets g .only k l out, and-true (bitOfWord got k), or-false (bitOfWord got k)))
         (λ k lo hi. patch k (omega arith) ∙ rw (eq-eqb (k / 8) b (omega arith), and-false (bitOfWord got k)) (T .gets g .has k lo hi (omega arith)))
 
--- a word whose bytes are all alike
-pub all-alike : (w h : ℕ) (rings : List ℕ) (r x free first : ℕ) → ((b : ℕ) → b < 8 → Alike rings (r * w + x) first b) → Tells w h rings r x 0 64 free first (record { good = true; got = first; most = 1 })
-all-alike w h rings r x free first like = record {
-  fine = λ e k lo hi lw. good-bit w h (bitOfWord free k) (bitOfWord first k) rings r (x + k) (ring k hi);
-  gets = λ e. record { has = λ k lo hi lw. rw (ring k hi) (sym (bit-some (bitOfWord first k))); only = λ k l out. absurd (out (omega arith) l) };
-  most = λ e k lo hi lw. rw (ring k hi) (bit-small (bitOfWord first k));
-}
-  where
-    ring : (k : ℕ) → k < 64 → getD rings (r * w + (x + k)) 0 ≡ bit (bitOfWord first k)
-    ring k l = alike-ring w h rings r x free first (k / 8) (like (k / 8) (omega arith)) k (omega arith) (omega arith)
+-- what the bytes before byte b tell
+pub record Upto (w h : ℕ) (rings : List ℕ) (r x free first b got most : ℕ) : Type 0 where
+  pub good : Before w h rings r x free first b (8 * b)
+  pub gets : GotTo w h rings r x free first b b got
+  pub least : Least w h rings r x free first b b most
+
+-- bytes that are alike are passed over: n of them from byte b on
+pub upto-alike : (w h : ℕ) (rings : List ℕ) (r x free first got most b n : ℕ) → b + n ≤ 8 → ((k : ℕ) → b ≤ k → k < b + n → Alike rings (r * w + x) first k) →
+    Upto w h rings r x free first b got most → Upto w h rings r x free first (b + n) got most
+upto-alike w h rings r x free first got most b zero l like u = let z : b + 0 ≡ b = omega arith in rw z u
+upto-alike w h rings r x free first got most b (suc n) l like u =
+    let z : b + 1 + n ≡ b + suc n = omega arith in
+    let a : Alike rings (r * w + x) first b = like b (omega arith) (omega arith) in
+    rw z at (upto-alike w h rings r x free first got most (b + 1) n (omega arith) (λ k lo hi. like k (omega arith) (omega arith)) (record {
+      good = alike-before w h rings r x free first b a (u .good);
+      gets = alike-got w h rings r x free first b a got (omega arith) (u .gets);
+      least = alike-least w h rings r x free first b a most (u .least);
+    }))
+
+pub upto-next : (w h : ℕ) (rings : List ℕ) (r x free first got most b d : ℕ) → b ≤ d → d ≤ 8 → ((k : ℕ) → b ≤ k → k < d → Alike rings (r * w + x) first k) →
+    Upto w h rings r x free first b got most → Upto w h rings r x free first d got most
+upto-next w h rings r x free first got most b d lo hi like u =
+    let z : b + (d - b) ≡ d = omega arith in
+    rw z at (upto-alike w h rings r x free first got most b (d - b) (omega arith) (λ k a e. like k a (omega arith)) u)
 
 -- a word of which the image has w - x columns
 pub short-told : (w h : ℕ) (rings : List ℕ) (r x free first : ℕ) (t : Told) → x < w → Tells w h rings r x 0 (w - x) free first t → Tells w h rings r x 0 64 free first t
@@ -240,12 +248,11 @@ quiet-told w h rings r x free first b none = record {
 }
 
 -- a whole word, after its last byte
-pub word-told : (w h : ℕ) (rings : List ℕ) (r x free first n got most : ℕ) → 8 ≤ n → Before w h rings r x free first 0 (8 * n) → GotTo w h rings r x free first 0 n got → Least w h rings r x free first 0 n most →
-    Tells w h rings r x 0 64 free first (record { good = true; got = got; most = most })
-word-told w h rings r x free first n got most ln B G L = record {
-  fine = λ e k lo hi lw. B k lo (omega arith);
-  gets = λ e. record { has = λ k lo hi lw. G k hi ∙ rw (lt-ltb k (8 * n) (omega arith)); only = λ k l out. absurd (out (omega arith) l) };
-  most = λ e k lo hi lw. L .1 k (omega arith);
+pub word-told : (w h : ℕ) (rings : List ℕ) (r x free first n got most : ℕ) → 8 ≤ n → Upto w h rings r x free first n got most → Tells w h rings r x 0 64 free first (record { good = true; got = got; most = most })
+word-told w h rings r x free first n got most ln u = record {
+  fine = λ e k lo hi lw. u .good k lo (omega arith);
+  gets = λ e. record { has = λ k lo hi lw. u .gets k hi ∙ rw (lt-ltb k (8 * n) (omega arith)); only = λ k l out. absurd (out (omega arith) l) };
+  most = λ e k lo hi lw. u .least .1 k (omega arith);
 }
 
 -- The words of a row ----------------------------------------------------------------------------------------------------------

@@ -96,6 +96,13 @@ Row-sound w h t f low up rings r = (c : ℕ) → c < w → Sound w h (packed w l
 abbrev pub Row-good : ℕ → ℕ → ℕ → ℕ → List ℕ → List ℕ → List ℕ → ℕ → Type 0
 Row-good w h q t low up rings r = Row-sound w h t (λ c. near w h q (packed w low) (r * w + c)) low up rings r
 
+-- row r has no shadow; and none of its pixels has a ring
+abbrev pub Shadeless : ℕ → List ℕ → List ℕ → ℕ → Type 0
+Shadeless w low up r = (c : ℕ) → c < w → shadow (packed w low) (packed w up) (r * w + c) ≡ false
+
+abbrev pub Bare : ℕ → List ℕ → ℕ → Type 0
+Bare w rings r = (c : ℕ) → c < w → getD rings (r * w + c) 0 ≡ 0
+
 -- each shadow pixel of row r that has no support below has a ring
 abbrev pub Row-held : ℕ → List ℕ → List ℕ → List ℕ → List ℕ → ℕ → Type 0
 Row-held w low up below rings r = (c : ℕ) → c < w → shadow (packed w low) (packed w up) (r * w + c) ≡ true → packed w below (r * w + c) ≡ false → 0 < getD rings (r * w + c) 0

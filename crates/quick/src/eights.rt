@@ -1,6 +1,6 @@
 // Eight rings at once, held against the bits of a byte.
 ghost use mathlib.Core.Path.{_≡_};
-ghost use mathlib.Core.Bool.{true, false};
+ghost use mathlib.Core.Bool.{true};
 ghost use Prim.Native.Nat.{ℕ, _+_, _<_, _≤_};
 ghost use lib.ListN.{length, getD};
 ghost use Rattle.rules.specs.Tools.{bit};
@@ -47,19 +47,17 @@ pub fn alike(rings: &[u16], ones: &[u16], x: usize, m: u8) -> bool
     all == 0
 }
 
-// Which of the eight bytes of the word m are alike, into `like`; and whether all are. No branch comes between them.
-pub fn alike_bytes(rings: &[u16], ones: &[u16], like: &mut [bool], x: usize, m: u64) -> bool
-    requires { ⌜ (x + 64 ≤ length (now rings)) × (x < 65536) × Ones (now ones) × (length (now like) ≡ 8) ⌝ }
-    ensures { λ _. ⌜ ((b : ℕ) → b < 8 → getD (now (like .exit)) b false ≡ true → Alike (now (rings .entry)) x m b) ⌝ }
-    ensures { λ r. ⌜ (r ≡ true → (b : ℕ) → b < 8 → Alike (now (rings .entry)) x m b) ⌝ }
+// The first byte of the word m, from byte b on, whose eight rings are not alike; or 8. Place x is the word's first.
+pub fn unlike(rings: &[u16], ones: &[u16], x: usize, m: u64, b: usize) -> usize
+    requires { ⌜ (x + 64 ≤ length (now rings)) × (x < 65536) × Ones (now ones) × (b ≤ 8) ⌝ }
+    ensures { λ r. ⌜ (b ≤ r) × (r ≤ 8) × ((k : ℕ) → b ≤ k → k < r → Alike (now (rings .entry)) x m k) ⌝ }
 {
-    let mut all = true;
-    let mut b = 0;
-    while b < 8 {
-        let a = alike(rings, ones, x + 8 * b, crate::bits::byte(m, b));
-        like[b] = a;
-        all = crate::bits::both(all, a);
-        b += 1;
+    let mut k = b;
+    while k < 8 {
+        if !alike(rings, ones, x + 8 * k, crate::bits::byte(m, k)) {
+            return k;
+        }
+        k += 1;
     }
-    all
+    k
 }

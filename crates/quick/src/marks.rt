@@ -1,8 +1,9 @@
 // Whether pixels have rings.
 ghost use mathlib.Core.Path.{_≡_};
 ghost use mathlib.Core.Bool.{true};
-ghost use Prim.Native.Nat.{ℕ, _+_, _<_, _≤_};
+ghost use Prim.Native.Nat.{ℕ, _+_, _*_, _<_, _≤_};
 ghost use lib.ListN.{length, getD};
+ghost use Rattle.quick.specs.Sound.{Bare};
 
 // All rings of n pixels from pixel x on, joined: none is larger.
 pub fn gather(rings: &[u16], x: usize, n: usize) -> u16
@@ -30,4 +31,12 @@ pub fn quiet(rings: &[u16], x: usize, n: usize) -> bool
         j += 256;
     }
     all | gather(rings, x + j, n - j) == 0
+}
+
+// Whether no pixel of the rows from a up to b has a ring.
+pub fn bare(rings: &[u16], a: usize, b: usize, w: usize) -> bool
+    requires { ⌜ (a ≤ b) × (b * w ≤ length (now rings)) × (b * w ≤ 65536) ⌝ }
+    ensures { λ d. ⌜ (d ≡ true → (y : ℕ) → a ≤ y → y < b → Bare w (now (rings .entry)) y) ⌝ }
+{
+    quiet(rings, a * w, (b - a) * w)
 }

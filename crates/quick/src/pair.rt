@@ -15,23 +15,22 @@ ghost use Rattle.image.specs.Rows.{packed, Clean};
 ghost use Rattle.words.specs.Words.{column, wordBit};
 ghost use Rattle.planes.specs.Scratch.{Ready, Drawn};
 ghost use Rattle.places.specs.Search.{Sized, badHere, unheldHere};
-ghost use Rattle.quick.specs.Sound.{Ones, Long, Row-sound, Row-good, Row-held, shadowPart};
+ghost use Rattle.quick.specs.Sound.{Ones, Long, Shadeless, Bare, Row-sound, Row-good, Row-held};
 
-// Row r, whose shadow is known. Rings of at most t are near by themselves.
+// Row r. Rings of at most t are near by themselves.
 fn shaded_row(
     low: &[u8],
     up: &[u8],
     below: &[u8],
     rings: &[u16],
     ones: &[u16],
-    shadow: Row,
     w: usize,
     h: usize,
     r: usize,
     t: u16,
 ) -> Passed
     requires fits { ⌜ (Sized w h × (r < h)) × (Clean w h (now low) × (Long (h * rowBytes w) (now low) (now up) (now below) (now below) × (length (now rings) ≡ h * w))) ⌝ }
-    requires scratch { ⌜ Ones (now ones) × ((c : ℕ) → column shadow c ≡ shadowPart (now low) (now up) (r * rowBytes w) (rowBytes w) c) ⌝ }
+    requires table { ⌜ Ones (now ones) ⌝ }
     ensures { λ s. ⌜ (s .rings ≡ true → Row-sound w h t (column (s .far)) (now (low .entry)) (now (up .entry)) (now (rings .entry)) r) ⌝ }
     ensures { λ s. ⌜ (s .held ≡ true → Row-held w (now (low .entry)) (now (up .entry)) (now (below .entry)) (now (rings .entry)) r) ⌝ }
 {
@@ -39,13 +38,17 @@ fn shaded_row(
     let above = places::bits::less(r, 1);
     let under = places::bits::smaller(r + 1, h - 1);
     let seed = crate::rows::seed_rows(low, up, above * rb, r * rb, under * rb, rb);
+    let shadow = crate::rows::shadow_row(low, up, r * rb, rb);
     let mut firsts = [0u64; 4];
     words::rows::put(&mut firsts, 0, crate::rows::first_row(seed, shadow));
     let mut frees = [0u64; 4];
     words::rows::put(&mut frees, 0, shadow);
     let mut hangs = [0u64; 4];
-    let held = words::rows::read(below, r * rb, rb);
-    words::rows::put(&mut hangs, 0, words::rows::but_not(shadow, held));
+    words::rows::put(
+        &mut hangs,
+        0,
+        crate::rows::not_in(shadow, below, r * rb, rb),
+    );
     let mut got = [0u64; 4];
     let s = crate::words64::row(rings, ones, &frees, &firsts, &hangs, &mut got, w, h, r);
     Passed {
@@ -66,7 +69,23 @@ fn far_of(got: &[u64], most: u16, t: u16) -> Row
     words::rows::none()
 }
 
-// Row r: one without shadow has no ring.
+// The first row from row `from` on that has shadow, or h.
+fn shaded(low: &[u8], up: &[u8], w: usize, h: usize, from: usize) -> usize
+    requires { ⌜ Sized w h × ((from ≤ h) × Long (h * rowBytes w) (now low) (now up) (now low) (now low)) ⌝ }
+    ensures { λ r. ⌜ (from ≤ r) × (r ≤ h) × ((y : ℕ) → from ≤ y → y < r → Shadeless w (now (low .entry)) (now (up .entry)) y) ⌝ }
+{
+    let rb = limits::row_bytes(w);
+    let mut r = from;
+    while r < h {
+        if words::rows::any(crate::rows::shadow_row(low, up, r * rb, rb)) {
+            return r;
+        }
+        r += 1;
+    }
+    r
+}
+
+// Row r, which may have shadow, and the rows from row `from` on before it, which have none and so no ring.
 fn row(
     low: &[u8],
     up: &[u8],
@@ -75,24 +94,24 @@ fn row(
     ones: &[u16],
     w: usize,
     h: usize,
+    from: usize,
     r: usize,
     t: u16,
 ) -> Passed
     requires fits { ⌜ (Sized w h × (r < h)) × (Clean w h (now low) × (Long (h * rowBytes w) (now low) (now up) (now below) (now below) × (length (now rings) ≡ h * w))) ⌝ }
-    requires table { ⌜ Ones (now ones) ⌝ }
+    requires table { ⌜ Ones (now ones) × (from ≤ r) ⌝ }
+    ensures { λ s. ⌜ (s .rings ≡ true → (y : ℕ) → from ≤ y → y < r → Bare w (now (rings .entry)) y) ⌝ }
     ensures { λ s. ⌜ (s .rings ≡ true → Row-sound w h t (column (s .far)) (now (low .entry)) (now (up .entry)) (now (rings .entry)) r) ⌝ }
     ensures { λ s. ⌜ (s .held ≡ true → Row-held w (now (low .entry)) (now (up .entry)) (now (below .entry)) (now (rings .entry)) r) ⌝ }
 {
-    let rb = limits::row_bytes(w);
-    let shadow = crate::rows::shadow_row(low, up, r * rb, rb);
-    if words::rows::any(shadow) {
-        return shaded_row(low, up, below, rings, ones, shadow, w, h, r, t);
+    if !crate::marks::bare(rings, from, r, w) {
+        return Passed {
+            rings: false,
+            held: false,
+            far: words::rows::none(),
+        };
     }
-    Passed {
-        rings: crate::marks::quiet(rings, r * w, w),
-        held: true,
-        far: words::rows::none(),
-    }
+    shaded_row(low, up, below, rings, ones, w, h, r, t)
 }
 
 // The lower layer in scratch, where it is not there yet.
@@ -155,9 +174,10 @@ fn rows(
 {
     let mut held = true;
     let mut drawn = false;
-    let mut r = 0;
+    let mut from = 0;
+    let mut r = shaded(low, up, w, h, 0);
     while r < h {
-        let s = row(low, up, below, rings, ones, w, h, r, t);
+        let s = row(low, up, below, rings, ones, w, h, from, r, t);
         let n = near_all(low, disc, halves, s.far, w, h, r, q, drawn);
         if !crate::bits::both(s.rings, n.good) {
             return Sure {
@@ -167,9 +187,13 @@ fn rows(
         }
         held = crate::bits::both(held, s.held);
         drawn = n.drawn;
-        r += 1;
+        from = r + 1;
+        r = shaded(low, up, w, h, from);
     }
-    Sure { rings: true, held }
+    Sure {
+        rings: crate::marks::bare(rings, from, h, w),
+        held,
+    }
 }
 
 // A pair. Rings of at most t are near by themselves.

@@ -10,7 +10,7 @@ ghost use Rattle.words.specs.Words.{wordBit};
 ghost use Rattle.places.specs.Search.{Sized};
 ghost use Rattle.quick.specs.Sound.{Ones, Good, Tells};
 
-// The word at column x, byte by byte.
+// The word at column x: the bytes whose rings are not alike, pixel by pixel.
 fn eights(
     rings: &[u16],
     ones: &[u16],
@@ -24,29 +24,18 @@ fn eights(
     requires { ⌜ (Sized w h × (length (now rings) ≡ h * w)) × ((r < h) × ((x + 64 ≤ w) × Ones (now ones))) ⌝ }
     ensures { λ t. ⌜ Tells w h (now (rings .entry)) r x 0 64 free first t ⌝ }
 {
+    let at = r * w + x;
     let mut got = first;
     let mut most: u16 = 1;
-    let mut like = [false; 8];
-    if crate::eights::alike_bytes(rings, ones, &mut like, r * w + x, first) {
-        return Told {
-            good: true,
-            got,
-            most,
-        };
-    }
-    let mut b = 0;
+    let mut b = crate::eights::unlike(rings, ones, at, first, 0);
     while b < 8 {
-        if like[b] {
-            b += 1;
-        } else {
-            let t = crate::steps::pixels(rings, w, h, r, x, 8 * b, 8 * b + 8, free, first);
-            if !t.good {
-                return t;
-            }
-            got = crate::bits::patched(got, t.got, b);
-            most = most | t.most;
-            b += 1;
+        let t = crate::steps::pixels(rings, w, h, r, x, 8 * b, 8 * b + 8, free, first);
+        if !t.good {
+            return t;
         }
+        got = crate::bits::patched(got, t.got, b);
+        most = most | t.most;
+        b = crate::eights::unlike(rings, ones, at, first, b + 1);
     }
     Told {
         good: true,

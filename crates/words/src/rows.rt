@@ -37,7 +37,7 @@ fn word_of(s: &[u8], at: usize, n: usize, q: usize) -> u64
 }
 
 // A row of n bytes from `at` on, where it is short of 32 bytes.
-fn read_short(s: &[u8], at: usize, n: usize) -> Row
+pub fn read_short(s: &[u8], at: usize, n: usize) -> Row
     requires { ⌜ (at + n ≤ length (now s)) × (n ≤ 32) ⌝ }
     ensures { λ r. ⌜ ((c : ℕ) → column r c ≡ rowPart (now (s .entry)) at n c) ⌝ }
 {

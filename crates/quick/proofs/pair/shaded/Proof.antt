@@ -1,0 +1,53 @@
+use Rattle.quick.specs.Holding.{row-room, shadeless}
+use Rattle.quick.specs.Joined.{all-more}
+use Rattle.quick.specs.Sound.{Shadeless}
+use Rattle.places.specs.Rows.{fit-of}
+use Rattle.words.specs.Words.{column}
+use Prim.Native.Nat.{ℕ, _≤_, _<_, _-_}
+use native.Mathlib.Omega.{arith}
+use borrow.Author.Needs.{needs}
+use Rattle.quick.proofs.pair.shaded.Statement.{statement}
+use Rattle.quick.proofs.pair.shaded.Tie as tie
+
+abbrev Inv-loop : tie.InvT-loop
+Inv-loop low up w h from rb r₀ r = (from ≤ r) × (r ≤ h) × ((y : ℕ) → from ≤ y → y < r → Shadeless w low up y)
+
+abbrev μ-loop : tie.MeasureT-loop
+μ-loop low up w h from rb r₀ r = h - r
+
+loop-holds : tie.Need-loop-holds Inv-loop μ-loop
+loop-holds c = (omega arith, c .before .before .before .pre .1 .0, λ y lo hi. absurd (omega arith))
+
+mul-shadow-row : tie.Need-mul-shadow-row Inv-loop μ-loop
+mul-shadow-row c = omega (arith, fit-of (c .before .loop .r) (c .before .before .row-bytes .result) 256 32 (omega (arith, c .before .before .before .before .before .pre .0 .h-high)) (c .before .before .row-bytes .ensures .1))
+
+shadow-row-requires : tie.Need-shadow-row-requires Inv-loop μ-loop
+shadow-row-requires c κs =
+    let a = c .before .before .before .before .before .args in
+    let e = c .before .before .row-bytes .ensures in
+    let L = c .before .before .before .before .before .pre .1 .1 in
+    (e .1, (row-room (a .w) (a .h) (c .before .loop .r) (c .before .before .row-bytes .result) _ (omega arith) (e .0) (L .low-long), row-room (a .w) (a .h) (c .before .loop .r) (c .before .before .row-bytes .result) _ (omega arith) (e .0) (L .up-long)))
+
+returns : tie.Need-returns Inv-loop μ-loop
+returns c = c .before .before .before .before .loop .inv
+
+add-r : tie.Need-add-r Inv-loop μ-loop
+add-r c = omega (arith, c .before .before .before .before .before .before .before .before .pre .0 .h-high)
+
+loop-again : tie.Need-loop-again Inv-loop μ-loop
+loop-again c =
+    let a = c .before .before .before .before .before .before .before .before .args in
+    let l = c .before .before .before .before .loop in (
+      omega arith,
+      omega arith,
+      all-more (Shadeless (a .w) (a .low .now) (a .up .now)) (a .from) (l .r) (l .inv .2)
+          (shadeless (a .w) (a .h) (c .before .before .before .before .before .row-bytes .result) (l .r) (c .before .before .before .before .before .row-bytes .ensures .0) (a .low .now) (a .up .now) (column (c .before .before .shadow-row .result)) (c .before .before .shadow-row .ensures) (c .before .any .ensures (c .if1 .left))),
+    )
+
+returns-2 : tie.Need-returns-2 Inv-loop μ-loop
+returns-2 c = c .before .loop .inv
+
+pub shaded-spec : {M : Type 1} → statement M
+shaded-spec =
+    tie.close
+    (tie.spec Inv-loop μ-loop (λ c κs. search needs) loop-holds mul-shadow-row shadow-row-requires (λ c κs. search needs) returns add-r (λ c. search needs) loop-again returns-2)
