@@ -7,9 +7,11 @@ ghost use mathlib.Core.Bool.{true, false, not, _&&_, _||_};
 ghost use Prim.Native.Nat.{ℕ, _*_, _<_, _≤_};
 ghost use lib.ListN.{length, getD};
 ghost use Rattle.rules.specs.Images.{rowBytes};
+ghost use Rattle.laws.specs.Discs.{Halves};
 ghost use Rattle.image.specs.Loops.{Bits, butNot};
 ghost use Rattle.image.specs.Rows.{packed, Clean, Packs};
 ghost use Rattle.image.specs.Scratch.{bitOf};
+ghost use Rattle.words.specs.Words.{Ones};
 ghost use Rattle.planes.specs.Scratch.{Sizes};
 ghost use Rattle.pair.specs.Found.{Spare};
 ghost use Rattle.pair.specs.HangLaws.{Excused};
@@ -60,8 +62,10 @@ fn hanging(
     h: usize,
     n: usize,
     q: Bound,
+    half: &[usize],
+    ones: &[u16],
 )
-    requires { ⌜ Sizes w h × (n ≡ rowBytes w) × (q .0 ≤ 1024) ⌝ }
+    requires { ⌜ Sizes w h × (n ≡ rowBytes w) × (q .0 ≤ 1024) × Halves (q .0) (now half) × Ones (now ones) ⌝ }
     requires { ⌜ Clean w h (now low) × Clean w h (now up) × (length (now out) ≡ h * rowBytes w) × (length (now ring) ≡ h * w) × ((p : ℕ) → p < h * w → getD (now ring) p 0 ≡ 0) ⌝ }
     requires { ⌜ Spare w h (now left) (now got) (now front) (now next) (now seed) (now lower) (now ahead) ⌝ }
     ensures { λ _. ⌜ now (ring .exit) ≡ pairRings w h (q .0) (packed w (now (low .entry))) (packed w (now (up .entry))) ⌝ }
@@ -83,13 +87,15 @@ fn hanging(
         h,
         n,
         q,
+        half,
+        ones,
     );
     crate::rows::excuse(out, got, ahead, w, h, n);
     crate::rows::empty(left, got, front, next, ahead, w, h);
 }
 
-// The rings of a pair, and the support of its lower layer; above is that of its upper layer, which has no pixel of that layer. The other
-// planes are scratch, empty between pairs.
+// The rings of a pair, and the support of its lower layer; above is that of its upper layer, which has no pixel of that layer. half has the half-widths of the
+// disc, and ones the bits of every byte as numbers. The other planes are scratch, empty between pairs.
 pub fn layer(
     low: &[u8],
     up: &[u8],
@@ -107,8 +113,10 @@ pub fn layer(
     h: usize,
     n: usize,
     q: Bound,
+    half: &[usize],
+    ones: &[u16],
 )
-    requires { ⌜ Sizes w h × (n ≡ rowBytes w) × (q .0 ≤ 1024) ⌝ }
+    requires { ⌜ Sizes w h × (n ≡ rowBytes w) × (q .0 ≤ 1024) × Halves (q .0) (now half) × Ones (now ones) ⌝ }
     requires { ⌜ Clean w h (now low) × Clean w h (now up) × Clean w h (now above) × (length (now out) ≡ h * rowBytes w) × (length (now ring) ≡ h * w) ⌝ }
     requires { ⌜ ((p : ℕ) → p < h * w → packed w (now above) p ≡ true → packed w (now up) p ≡ true → ⊥) ⌝ }
     requires { ⌜ Spare w h (now left) (now got) (now front) (now next) (now seed) (now lower) (now ahead) ⌝ }
@@ -136,5 +144,7 @@ pub fn layer(
         h,
         n,
         q,
+        half,
+        ones,
     );
 }

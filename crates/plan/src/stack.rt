@@ -6,6 +6,8 @@ ghost use Prim.Native.Nat.{suc, _+_, _-_, _*_, _<_, _≤_};
 ghost use lib.ListN.{length};
 ghost use Rattle.rules.specs.Images.{rowBytes, paddingSet};
 ghost use Rattle.rules.specs.Planning.{plannedRings, plannedBytes};
+ghost use Rattle.laws.specs.Discs.{Halves};
+ghost use Rattle.words.specs.Words.{Ones};
 ghost use Rattle.image.specs.Rows.{Packs, plane, OnlyPlane};
 ghost use Rattle.pair.specs.Found.{Sized, Spare};
 ghost use Rattle.plan.specs.Stacks.{Buffers, Down};
@@ -41,8 +43,10 @@ fn layer_at(
     rb: usize,
     q: Bound,
     i: usize,
+    half: &[usize],
+    ones: &[u16],
 )
-    requires { ⌜ Sized w h rb × (q .0 ≤ 1024) × (suc i < n) ⌝ }
+    requires { ⌜ Sized w h rb × (q .0 ≤ 1024) × (suc i < n) × Halves (q .0) (now half) × Ones (now ones) ⌝ }
     requires { ⌜ Buffers w h n (now part) (now support) (now rings) ⌝ }
     requires { ⌜ Down w h n (q .0) (i + 1) (now part) (now support) (now rings) (now above) ⌝ }
     requires { ⌜ Spare w h (now left) (now got) (now front) (now next) (now seed) (now lower) (now ahead) ⌝ }
@@ -71,6 +75,8 @@ fn layer_at(
         h,
         rb,
         q,
+        half,
+        ones,
     );
     put(&support[a..m], above);
 }
@@ -93,8 +99,10 @@ fn layers(
     n: usize,
     rb: usize,
     q: Bound,
+    half: &[usize],
+    ones: &[u16],
 )
-    requires { ⌜ Sized w h rb × (q .0 ≤ 1024) × (0 < n) ⌝ }
+    requires { ⌜ Sized w h rb × (q .0 ≤ 1024) × (0 < n) × Halves (q .0) (now half) × Ones (now ones) ⌝ }
     requires { ⌜ Buffers w h n (now part) (now support) (now rings) ⌝ }
     requires { ⌜ Down w h n (q .0) (n - 1) (now part) (now support) (now rings) (now above) ⌝ }
     requires { ⌜ Spare w h (now left) (now got) (now front) (now next) (now seed) (now lower) (now ahead) ⌝ }
@@ -122,6 +130,8 @@ fn layers(
             rb,
             q,
             i,
+            half,
+            ones,
         );
     }
 }
@@ -137,7 +147,7 @@ fn top(support: &mut [u8], above: &[u8], w: usize, h: usize, n: usize, rb: usize
     put(above, &mut support[a..a + size]);
 }
 
-// The whole stack, for the bound q on squared distances. The scratch of its pairs is made here and lent down.
+// The whole stack, for the bound q on squared distances. The tables and the scratch of its pairs are made here and lent down.
 pub fn stack(
     part: &[u8],
     support: &mut [u8],
@@ -163,6 +173,10 @@ pub fn stack(
     let mut seed = [0u64; 1610];
     let mut lower = [0u64; 1610];
     let mut ahead = [0usize; 257];
+    let mut half = [0usize; 33];
+    roots::halves(q.0, &mut half);
+    let mut ones = [0u16; 2048];
+    words::ones::fill(&mut ones);
     layers(
         part,
         support,
@@ -180,5 +194,7 @@ pub fn stack(
         n,
         rb,
         q,
+        &half,
+        &ones,
     );
 }

@@ -59,14 +59,20 @@ fn drop_rows(
     }
 }
 
-// Drops the pixels that are not near to low, in the rows that `ahead` leads to.
-pub fn drop_far(low: &[u64], left: &mut [u64], ahead: &[usize], w: usize, h: usize, q: Bound)
-    requires { ⌜ Sizes w h × Aheads h (now ahead) × Ready w h (now low) × Room w h (now ahead) (now left) × (q .0 ≤ 1024) ⌝ }
+// The same; in its middle row a disc runs as far as it does up and down.
+pub fn drop_far(
+    low: &[u64],
+    left: &mut [u64],
+    ahead: &[usize],
+    w: usize,
+    h: usize,
+    q: Bound,
+    half: &[usize],
+)
+    requires { ⌜ Sizes w h × Aheads h (now ahead) × Ready w h (now low) × Room w h (now ahead) (now left) × (q .0 ≤ 1024) × Halves (q .0) (now half) ⌝ }
     ensures { λ _. ⌜ ((j : ℕ) → wordBit (now (left .exit)) j ≡ nearBits w h (q .0) (now (low .entry)) (now (left .entry)) j) ⌝ }
 {
-    let mut half = [0usize; 33];
-    roots::halves(q.0, &mut half);
-    drop_rows(low, left, ahead, &half, w, h, q, roots::root(q.0));
+    drop_rows(low, left, ahead, half, w, h, q, half[0]);
 }
 
 fn either(a: bool, b: bool) -> bool

@@ -7,8 +7,9 @@ ghost use mathlib.Core.Bool.{Bool, true, false};
 ghost use Prim.Native.Nat.{ℕ, _+_, _*_, _<_, _≤_};
 ghost use lib.ListN.{length, getD};
 ghost use Rattle.rules.specs.Images.{rowBytes};
+ghost use Rattle.laws.specs.Discs.{Halves};
 ghost use Rattle.image.specs.Rows.{packed, Clean};
-ghost use Rattle.words.specs.Words.{wordBit};
+ghost use Rattle.words.specs.Words.{Ones, wordBit};
 ghost use Rattle.planes.specs.Scratch.{seen};
 ghost use Rattle.waves.specs.Fronts.{Afloat, Waved};
 ghost use Rattle.waves.specs.Rows.{Room};
@@ -51,17 +52,32 @@ fn onward(
     n: usize,
     q: Bound,
     k: usize,
+    half: &[usize],
+    ones: &[u16],
 )
     requires { ⌜ Afloat w h (now ahead) (now front) (now left) (now got) (now ring) ⌝ }
     requires { ⌜ Rooms w h (now ahead) (now left) (now got) (now front) (now next) (now lower) ⌝ }
-    requires { ⌜ (n ≡ rowBytes w) × Clean w h (now low) × (q .0 ≤ 1024) × (0 < k) × (k < 65536) ⌝ }
+    requires { ⌜ (n ≡ rowBytes w) × Clean w h (now low) × (q .0 ≤ 1024) × (0 < k) × (k < 65536) × Halves (q .0) (now half) × Ones (now ones) ⌝ }
     ensures { λ _. ⌜ Rooms w h (now (ahead .entry)) (now (left .exit)) (now (got .exit)) (now (front .exit)) (now (next .exit)) (now (lower .exit)) ⌝ }
     ensures { λ _. ⌜ ((over seed : ℕ → Bool) → Landed w h (q .0) k (packed w (now (low .entry))) over seed (now (front .entry)) (now (left .entry)) (now (got .entry)) (now (ring .entry))
         → Whole w h (nearIn w h (q .0) (packed w (now (low .entry))) over) seed (now (got .exit)) (now (ring .exit))) ⌝ }
 {
     crate::far::read_plane(low, lower, w, h, n);
-    crate::far::drop_far(lower, left, ahead, w, h, q);
-    let r = waves::waves::waves(ring, front, next, left, got, ahead, w, h, k, 65535, 16);
+    crate::far::drop_far(lower, left, ahead, w, h, q, half);
+    let r = waves::waves::waves(
+        ring,
+        front,
+        next,
+        left,
+        got,
+        ahead,
+        w,
+        h,
+        k,
+        65535,
+        16,
+        ones,
+    );
     if r == 0 {
         return;
     }
@@ -84,19 +100,21 @@ fn over(
     n: usize,
     q: Bound,
     t: usize,
+    half: &[usize],
+    ones: &[u16],
 )
     requires { ⌜ Afloat w h (now ahead) (now seed) (now left) (now got) (now ring) ⌝ }
     requires { ⌜ Rooms w h (now ahead) (now left) (now got) (now front) (now next) (now lower) ⌝ }
-    requires { ⌜ (n ≡ rowBytes w) × Clean w h (now low) × (q .0 ≤ 1024) × (0 < t) × (t ≤ 32) ⌝ }
+    requires { ⌜ (n ≡ rowBytes w) × Clean w h (now low) × (q .0 ≤ 1024) × (0 < t) × (t ≤ 32) × Halves (q .0) (now half) × Ones (now ones) ⌝ }
     ensures { λ _. ⌜ Rooms w h (now (ahead .entry)) (now (left .exit)) (now (got .exit)) (now (front .exit)) (now (next .exit)) (now (lower .exit)) ⌝ }
     ensures { λ _. ⌜ ((shadow seeds : ℕ → Bool) → Waved w h 0 shadow seeds (now (seed .entry)) (now (left .entry)) (now (got .entry)) (now (ring .entry)) → Apart w h shadow seeds
         → NearBy w h (q .0) t (packed w (now (low .entry))) shadow seeds → Whole w h (nearIn w h (q .0) (packed w (now (low .entry))) shadow) seeds (now (got .exit)) (now (ring .exit))) ⌝ }
 {
-    let a = waves::waves::wave(ring, seed, front, left, got, ahead, w, h, 1);
+    let a = waves::waves::wave(ring, seed, front, left, got, ahead, w, h, 1, ones);
     if a == 0 {
         return;
     }
-    let k = waves::waves::waves(ring, front, next, left, got, ahead, w, h, 1, t, 1);
+    let k = waves::waves::waves(ring, front, next, left, got, ahead, w, h, 1, t, 1, ones);
     if k == 0 {
         return;
     }
@@ -114,6 +132,8 @@ fn over(
         n,
         q,
         k,
+        half,
+        ones,
     );
 }
 
@@ -133,17 +153,19 @@ pub fn rings(
     h: usize,
     n: usize,
     q: Bound,
+    half: &[usize],
+    ones: &[u16],
 )
     requires { ⌜ Afloat w h (now ahead) (now seed) (now left) (now got) (now ring) ⌝ }
     requires { ⌜ Rooms w h (now ahead) (now left) (now got) (now front) (now next) (now lower) ⌝ }
-    requires { ⌜ (n ≡ rowBytes w) × Clean w h (now low) × (q .0 ≤ 1024) ⌝ }
+    requires { ⌜ (n ≡ rowBytes w) × Clean w h (now low) × (q .0 ≤ 1024) × Halves (q .0) (now half) × Ones (now ones) ⌝ }
     ensures { λ _. ⌜ Rooms w h (now (ahead .entry)) (now (left .exit)) (now (got .exit)) (now (front .exit)) (now (next .exit)) (now (lower .exit)) ⌝ }
     ensures { λ _. ⌜ ((shadow seeds : ℕ → Bool) → Waved w h 0 shadow seeds (now (seed .entry)) (now (left .entry)) (now (got .entry)) (now (ring .entry)) → Apart w h shadow seeds
         → ((p : ℕ) → p < h * w → seeds p ≡ true → packed w (now (low .entry)) p ≡ true) → Whole w h (nearIn w h (q .0) (packed w (now (low .entry))) shadow) seeds (now (got .exit)) (now (ring .exit))) ⌝ }
 {
     if q.0 < 2 {
         crate::far::read_plane(low, lower, w, h, n);
-        crate::far::drop_far(lower, left, ahead, w, h, q);
+        crate::far::drop_far(lower, left, ahead, w, h, q, half);
         over(
             low,
             ring,
@@ -159,6 +181,8 @@ pub fn rings(
             n,
             q,
             1,
+            half,
+            ones,
         );
         return;
     }
@@ -178,5 +202,7 @@ pub fn rings(
         n,
         q,
         t,
+        half,
+        ones,
     );
 }

@@ -5,19 +5,19 @@ ghost use mathlib.Core.Path.{_≡_};
 ghost use mathlib.Core.Bool.{true, false, not, _&&_, _||_};
 ghost use Prim.Native.Nat.{ℕ, _+_, _*_, _<_, _≤_};
 ghost use lib.ListN.{length};
-ghost use Rattle.words.specs.Words.{wordBit, column};
+ghost use Rattle.words.specs.Words.{Ones, column, wordBit};
 ghost use Rattle.planes.specs.Scratch.{fresh};
 ghost use Rattle.waves.specs.Rows.{RowBits, RowNumbers, RowWave};
 
 // Writes v at the pixels of a row; column 0 is place `at`.
-fn number_row(ring: &mut [u16], at: usize, x: Row, v: u16)
-    requires { ⌜ ((c : ℕ) → column x c ≡ true → at + c < length (now ring)) × (at ≤ 65536) ⌝ }
+fn number_row(ring: &mut [u16], at: usize, x: Row, v: u16, ones: &[u16])
+    requires { ⌜ ((c : ℕ) → column x c ≡ true → at + c < length (now ring)) × (at ≤ 65536) × Ones (now ones) ⌝ }
     ensures { λ _. ⌜ RowNumbers at v (column x) (now (ring .entry)) (now (ring .exit)) ⌝ }
 {
-    words::single::number(ring, at, x.a, v);
-    words::single::number(ring, at + 64, x.b, v);
-    words::single::number(ring, at + 128, x.c, v);
-    words::single::number(ring, at + 192, x.d, v);
+    words::single::number(ring, at, x.a, v, ones);
+    words::single::number(ring, at + 64, x.b, v, ones);
+    words::single::number(ring, at + 128, x.c, v, ones);
+    words::single::number(ring, at + 192, x.d, v, ones);
 }
 
 // Row y: what is left and touches `from` gets ring v and goes from left to got, and to `to`.
@@ -30,8 +30,9 @@ pub fn wave_row(
     w: usize,
     y: usize,
     v: u16,
+    ones: &[u16],
 ) -> Gone
-    requires { ⌜ (length (now from) ≡ 1610) × (length (now to) ≡ 1610) × (length (now left) ≡ 1610) × (length (now got) ≡ 1610) × (y < 256) × (w ≤ 256) ⌝ }
+    requires { ⌜ (length (now from) ≡ 1610) × (length (now to) ≡ 1610) × (length (now left) ≡ 1610) × (length (now got) ≡ 1610) × (y < 256) × (w ≤ 256) × Ones (now ones) ⌝ }
     requires { ⌜ ((c : ℕ) → c < 256 → wordBit (now left) ((y + 33) * 320 + c) ≡ true → y * w + c < length (now ring)) ⌝ }
     ensures { λ r. ⌜ RowWave w y v (r .new) (r .more) (now (from .entry)) (now (to .entry)) (now (to .exit)) (now (left .entry)) (now (left .exit)) (now (got .entry)) (now (got .exit)) (now (ring .entry)) (now (ring .exit)) ⌝ }
 {
@@ -56,7 +57,7 @@ pub fn wave_row(
     planes::rows::put(left, k, rest);
     let all = words::rows::either(planes::rows::row(got, k), now);
     planes::rows::put(got, k, all);
-    number_row(ring, y * w, now, v);
+    number_row(ring, y * w, now, v, ones);
     Gone {
         new: true,
         more: words::rows::any(rest),

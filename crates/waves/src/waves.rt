@@ -2,7 +2,7 @@
 ghost use mathlib.Core.Path.{_≡_};
 ghost use mathlib.Core.Bool.{true, false};
 ghost use Prim.Native.Nat.{ℕ, _+_, _*_, _<_, _≤_};
-ghost use Rattle.words.specs.Words.{wordBit};
+ghost use Rattle.words.specs.Words.{Ones, wordBit};
 ghost use Rattle.planes.specs.Scratch.{Sizes, Ready};
 ghost use Rattle.waves.specs.Rows.{Aheads, Room, Waving, Still};
 ghost use Rattle.waves.specs.Fronts.{Afloat, Rolled};
@@ -30,9 +30,10 @@ pub fn wave(
     w: usize,
     h: usize,
     v: u16,
+    ones: &[u16],
 ) -> usize
     requires { ⌜ Afloat w h (now ahead) (now from) (now left) (now got) (now ring) ⌝ }
-    requires { ⌜ Room w h (now ahead) (now to) ⌝ }
+    requires { ⌜ Room w h (now ahead) (now to) × Ones (now ones) ⌝ }
     ensures { λ _. ⌜ Afloat w h (now (ahead .entry)) (now (to .exit)) (now (left .exit)) (now (got .exit)) (now (ring .exit)) ⌝ }
     ensures { λ _. ⌜ Room w h (now (ahead .entry)) (now (to .exit)) ⌝ }
     ensures { λ _. ⌜ Waving w h v (now (from .entry)) (now (to .exit)) (now (left .entry)) (now (left .exit)) (now (got .entry)) (now (got .exit)) (now (ring .entry)) (now (ring .exit)) ⌝ }
@@ -42,7 +43,7 @@ pub fn wave(
     let mut more = false;
     let mut y = ahead[0];
     while y < h {
-        let gone = crate::rows::wave_row(ring, from, to, left, got, w, y, v);
+        let gone = crate::rows::wave_row(ring, from, to, left, got, w, y, v, ones);
         rows += one(gone.new);
         more = either(more, gone.more);
         y = ahead[y + 1];
@@ -79,10 +80,11 @@ pub fn waves(
     k: usize,
     t: usize,
     least: usize,
+    ones: &[u16],
 ) -> usize
     requires { ⌜ Afloat w h (now ahead) (now front) (now left) (now got) (now ring) ⌝ }
     requires { ⌜ Room w h (now ahead) (now front) × Room w h (now ahead) (now next) ⌝ }
-    requires { ⌜ (0 < k) × (k ≤ t) × (t < 65536) ⌝ }
+    requires { ⌜ (0 < k) × (k ≤ t) × (t < 65536) × Ones (now ones) ⌝ }
     ensures { λ _. ⌜ Afloat w h (now (ahead .entry)) (now (front .exit)) (now (left .exit)) (now (got .exit)) (now (ring .exit)) ⌝ }
     ensures { λ _. ⌜ Room w h (now (ahead .entry)) (now (front .exit)) × Room w h (now (ahead .entry)) (now (next .exit)) ⌝ }
     ensures { λ r. ⌜ Rolled w h k t r (now (front .entry)) (now (front .exit)) (now (left .entry)) (now (left .exit)) (now (got .entry)) (now (got .exit)) (now (ring .entry)) (now (ring .exit)) ⌝ }
@@ -90,7 +92,18 @@ pub fn waves(
 {
     let mut n = k;
     while n + 1 < t {
-        let a = wave(ring, front, next, left, got, ahead, w, h, (n + 1) as u16);
+        let a = wave(
+            ring,
+            front,
+            next,
+            left,
+            got,
+            ahead,
+            w,
+            h,
+            (n + 1) as u16,
+            ones,
+        );
         if a == 0 {
             return 0;
         }
@@ -98,7 +111,18 @@ pub fn waves(
             copy(next, front, ahead, w, h);
             return n + 1;
         }
-        let b = wave(ring, next, front, left, got, ahead, w, h, (n + 2) as u16);
+        let b = wave(
+            ring,
+            next,
+            front,
+            left,
+            got,
+            ahead,
+            w,
+            h,
+            (n + 2) as u16,
+            ones,
+        );
         if b == 0 {
             return 0;
         }

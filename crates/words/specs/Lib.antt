@@ -5,3 +5,4 @@ pub mod Digits
 pub mod WordLaws
 pub mod RowLaws
 pub mod SingleLaws
+pub mod OneLaws

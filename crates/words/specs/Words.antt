@@ -5,7 +5,9 @@ use mathlib.Core.List.{List, [], _∷_}
 use Prim.Native.Nat.{ℕ, suc, _+_, _-_, _*_, _/_, _%_, _^_, _<_, _≤_}
 use lib.Count.{trailingZeros}
 use lib.Dec.{eqb, leb, ltb}
-use lib.ListN.{getD}
+use lib.ListN.{length, getD}
+use Rattle.rules.specs.Tools.{bit}
+use Rattle.rules.specs.Images.{bitAt}
 use Rattle.image.specs.Scratch.{bitOf}
 use Rattle.words.specs.declared.Row.{Row}
 
@@ -66,3 +68,14 @@ pub record Numbered (x m v : ℕ) (was now : List ℕ) : Type 0 where
   pub here : (k : ℕ) → k < 64 → getD now (x + k) 0 ≡ cond (bitOfWord m k) v (getD was (x + k) 0)
   pub before : (p : ℕ) → p < x → getD now p 0 ≡ getD was p 0
   pub behind : (p : ℕ) → x + 64 ≤ p → getD now p 0 ≡ getD was p 0
+
+-- the bits of every byte, each as a number: bit k of byte m stands at 8 * m + k
+pub record Ones (l : List ℕ) : Type 0 where
+  pub long : length l ≡ 2048
+  pub is : (i : ℕ) → i < 2048 → getD l i 0 ≡ bit (bitAt (i / 8) (i % 8))
+
+-- the n places from x on are f's, and all others are as they were
+pub record Placed (x n : ℕ) (f : ℕ → ℕ) (was now : List ℕ) : Type 0 where
+  pub here : (k : ℕ) → k < n → getD now (x + k) 0 ≡ f k
+  pub before : (p : ℕ) → p < x → getD now p 0 ≡ getD was p 0
+  pub behind : (p : ℕ) → x + n ≤ p → getD now p 0 ≡ getD was p 0

@@ -1,5 +1,6 @@
 // Rows of up to 256 pixels as four words of 64 bits, column 0 being the highest bit of the first word.
 pub mod bytes;
+pub mod ones;
 pub mod rows;
 pub mod single;
 

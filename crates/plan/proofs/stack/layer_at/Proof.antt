@@ -16,91 +16,91 @@ use Rattle.plan.proofs.stack.layer_at.Tie as tie
 
 -- src/stack.rt:52:16
 mul-size : tie.Need-mul-size
-mul-size c = omega (arith, plane-size (c .before .before .before .before .before .before .before .before .before .before .before .args .w) (c .before .before .before .before .before .before .before .before .before .before .before .args .h) (c .before .before .before .before .before .before .before .before .before .before .before .args .rb) (c .before .before .before .before .before .before .before .before .before .before .before .pre .0 .0))
+mul-size c = omega (arith, plane-size (c .before .before .before .before .before .before .before .before .before .before .before .before .before .args .w) (c .before .before .before .before .before .before .before .before .before .before .before .before .before .args .h) (c .before .before .before .before .before .before .before .before .before .before .before .before .before .args .rb) (c .before .before .before .before .before .before .before .before .before .before .before .before .before .pre .0 .0))
 
 -- src/stack.rt:53:16
 mul-area : tie.Need-mul-area
-mul-area c = omega (arith, area-max (c .before .before .before .before .before .before .before .before .before .before .before .args .w) (c .before .before .before .before .before .before .before .before .before .before .before .args .h) (c .before .before .before .before .before .before .before .before .before .before .before .pre .0 .0 .sizes .w-max) (c .before .before .before .before .before .before .before .before .before .before .before .pre .0 .0 .sizes .h-max))
+mul-area c = omega (arith, area-max (c .before .before .before .before .before .before .before .before .before .before .before .before .before .args .w) (c .before .before .before .before .before .before .before .before .before .before .before .before .before .args .h) (c .before .before .before .before .before .before .before .before .before .before .before .before .before .pre .0 .0 .sizes .w-max) (c .before .before .before .before .before .before .before .before .before .before .before .before .before .pre .0 .0 .sizes .h-max))
 
 -- src/stack.rt:54:13
 mul-a : tie.Need-mul-a
 mul-a c =
-    let A = c .before .before .before .before .before .before .before .before .before .before .before .args in
-    let P = c .before .before .before .before .before .before .before .before .before .before .before .pre in
+    let A = c .before .before .before .before .before .before .before .before .before .before .before .before .before .args in
+    let P = c .before .before .before .before .before .before .before .before .before .before .before .before .before .pre in
     omega (arith, layer-room (A .w) (A .h) (A .n) (A .h * A .rb) (A .i) (length (A .part .now)) (plane-size (A .w) (A .h) (A .rb) (P .0 .0) .0) (P .1 .0 .part-long) (omega (arith, P .0 .2)))
 
 -- src/stack.rt:55:13
 add-m : tie.Need-add-m
 add-m c =
-    let A = c .before .before .before .before .before .before .before .before .before .before .before .args in
-    let P = c .before .before .before .before .before .before .before .before .before .before .before .pre in
+    let A = c .before .before .before .before .before .before .before .before .before .before .before .before .before .args in
+    let P = c .before .before .before .before .before .before .before .before .before .before .before .before .before .pre in
     omega (arith, layer-room (A .w) (A .h) (A .n) (A .h * A .rb) (A .i) (length (A .part .now)) (plane-size (A .w) (A .h) (A .rb) (P .0 .0) .0) (P .1 .0 .part-long) (omega (arith, P .0 .2)))
 
 -- src/stack.rt:56:13
 mul-x : tie.Need-mul-x
 mul-x c =
-    let A = c .before .before .before .before .before .before .before .before .before .before .before .args in
-    let P = c .before .before .before .before .before .before .before .before .before .before .before .pre in
-    omega (arith, ring-room (A .w) (A .h) (A .n) (A .h * A .w) (A .i) (length (A .rings .now)) refl (P .1 .0 .rings-long) (P .0 .2), c .before .before .before .before .before .before .before .before .before .before .before .good .1 .1 .0)
+    let A = c .before .before .before .before .before .before .before .before .before .before .before .before .before .args in
+    let P = c .before .before .before .before .before .before .before .before .before .before .before .before .before .pre in
+    omega (arith, ring-room (A .w) (A .h) (A .n) (A .h * A .w) (A .i) (length (A .rings .now)) refl (P .1 .0 .rings-long) (P .0 .2), c .before .before .before .before .before .before .before .before .before .before .before .before .before .good .1 .1 .0)
 
 -- src/stack.rt:58:9
 part-layer-end : tie.Need-part-layer-end
 part-layer-end c =
-    let A = c .before .before .before .before .before .before .before .before .before .before .before .args in
-    let P = c .before .before .before .before .before .before .before .before .before .before .before .pre in
+    let A = c .before .before .before .before .before .before .before .before .before .before .before .before .before .args in
+    let P = c .before .before .before .before .before .before .before .before .before .before .before .before .before .pre in
     layer-room (A .w) (A .h) (A .n) (A .h * A .rb) (A .i) (length (A .part .now)) (plane-size (A .w) (A .h) (A .rb) (P .0 .0) .0) (P .1 .0 .part-long) (omega (arith, P .0 .2))
 
 -- src/stack.rt:59:18
 add-layer : tie.Need-add-layer
 add-layer c =
-    let A = c .before .before .before .before .before .before .before .before .before .before .before .before .args in
-    let P = c .before .before .before .before .before .before .before .before .before .before .before .before .pre in
+    let A = c .before .before .before .before .before .before .before .before .before .before .before .before .before .before .args in
+    let P = c .before .before .before .before .before .before .before .before .before .before .before .before .before .before .pre in
     omega (arith, up-room (A .w) (A .h) (A .n) (A .h * A .rb) (A .i) (length (A .part .now)) (plane-size (A .w) (A .h) (A .rb) (P .0 .0) .0) (P .1 .0 .part-long) (P .0 .2))
 
 -- src/stack.rt:59:9
 part-layer-end-2 : tie.Need-part-layer-end-2
 part-layer-end-2 c =
-    let A = c .before .before .before .before .before .before .before .before .before .before .before .before .args in
-    let P = c .before .before .before .before .before .before .before .before .before .before .before .before .pre in
+    let A = c .before .before .before .before .before .before .before .before .before .before .before .before .before .before .args in
+    let P = c .before .before .before .before .before .before .before .before .before .before .before .before .before .before .pre in
     up-room (A .w) (A .h) (A .n) (A .h * A .rb) (A .i) (length (A .part .now)) (plane-size (A .w) (A .h) (A .rb) (P .0 .0) .0) (P .1 .0 .part-long) (P .0 .2)
 
 -- src/stack.rt:61:9
 part-layer-end-3 : tie.Need-part-layer-end-3
 part-layer-end-3 c =
-    let A = c .before .before .before .before .before .before .before .before .before .before .before .before .before .before .args in
-    let P = c .before .before .before .before .before .before .before .before .before .before .before .before .before .before .pre in
+    let A = c .before .before .before .before .before .before .before .before .before .before .before .before .before .before .before .before .args in
+    let P = c .before .before .before .before .before .before .before .before .before .before .before .before .before .before .before .before .pre in
     layer-room (A .w) (A .h) (A .n) (A .h * A .rb) (A .i) (length (A .support .now)) (plane-size (A .w) (A .h) (A .rb) (P .0 .0) .0) (P .1 .0 .support-long) (omega (arith, P .0 .2))
 
 -- src/stack.rt:62:23
 add-layer-2 : tie.Need-add-layer-2
 add-layer-2 c =
-    let A = c .before .before .before .before .before .before .before .before .before .before .before .before .before .before .before .args in
-    let P = c .before .before .before .before .before .before .before .before .before .before .before .before .before .before .before .pre in
-    omega (arith, ring-room (A .w) (A .h) (A .n) (A .h * A .w) (A .i) (length (A .rings .now)) refl (P .1 .0 .rings-long) (P .0 .2), c .before .before .before .before .before .before .before .before .before .before .before .before .before .before .before .good .1 .1 .0)
+    let A = c .before .before .before .before .before .before .before .before .before .before .before .before .before .before .before .before .before .args in
+    let P = c .before .before .before .before .before .before .before .before .before .before .before .before .before .before .before .before .before .pre in
+    omega (arith, ring-room (A .w) (A .h) (A .n) (A .h * A .w) (A .i) (length (A .rings .now)) refl (P .1 .0 .rings-long) (P .0 .2), c .before .before .before .before .before .before .before .before .before .before .before .before .before .before .before .before .before .good .1 .1 .0)
 
 -- src/stack.rt:62:9
 mul-layer : tie.Need-mul-layer
 mul-layer c =
-    let A = c .before .before .before .before .before .before .before .before .before .before .before .before .before .before .before .args in
-    let P = c .before .before .before .before .before .before .before .before .before .before .before .before .before .before .before .pre in
-    omega (arith, ring-room (A .w) (A .h) (A .n) (A .h * A .w) (A .i) (length (A .rings .now)) refl (P .1 .0 .rings-long) (P .0 .2), c .before .before .before .before .before .before .before .before .before .before .before .before .before .before .before .good .1 .1 .0)
+    let A = c .before .before .before .before .before .before .before .before .before .before .before .before .before .before .before .before .before .args in
+    let P = c .before .before .before .before .before .before .before .before .before .before .before .before .before .before .before .before .before .pre in
+    omega (arith, ring-room (A .w) (A .h) (A .n) (A .h * A .w) (A .i) (length (A .rings .now)) refl (P .1 .0 .rings-long) (P .0 .2), c .before .before .before .before .before .before .before .before .before .before .before .before .before .before .before .before .before .good .1 .1 .0)
 
 -- src/stack.rt:62:9
 part-layer-end-4 : tie.Need-part-layer-end-4
 part-layer-end-4 c =
-    let A = c .before .before .before .before .before .before .before .before .before .before .before .before .before .before .before .args in
-    let P = c .before .before .before .before .before .before .before .before .before .before .before .before .before .before .before .pre in
+    let A = c .before .before .before .before .before .before .before .before .before .before .before .before .before .before .before .before .before .args in
+    let P = c .before .before .before .before .before .before .before .before .before .before .before .before .before .before .before .before .before .pre in
     ring-room (A .w) (A .h) (A .n) (A .h * A .w) (A .i) (length (A .rings .now)) refl (P .1 .0 .rings-long) (P .0 .2)
 
 -- src/stack.rt:57:5
 layer-requires : tie.Need-layer-requires
 layer-requires c κs =
-    let A = c .before .before .before .before .before .before .before .before .before .before .before .before .before .before .before .before .before .before .before .before .before .before .before .args in
-    let P = c .before .before .before .before .before .before .before .before .before .before .before .before .before .before .before .before .before .before .before .before .before .before .before .pre in
+    let A = c .before .before .before .before .before .before .before .before .before .before .before .before .before .before .before .before .before .before .before .before .before .before .before .before .before .args in
+    let P = c .before .before .before .before .before .before .before .before .before .before .before .before .before .before .before .before .before .before .before .before .before .before .before .before .before .pre in
     let B = P .1 .0 in
     let es = plane-size (A .w) (A .h) (A .rb) (P .0 .0) .0 in
     let size = A .h * A .rb in (
-      (P .0 .0 .sizes, P .0 .0 .bytes, P .0 .1),
+      (P .0 .0 .sizes, P .0 .0 .bytes, P .0 .1, P .0 .3, P .0 .4),
       (
         (
           lent-low (A .w) (A .h) (A .n) size (A .i) (A .part .now) es (B .part-long) (B .clean) (P .0 .2),
@@ -116,8 +116,8 @@ layer-requires c κs =
 -- src/stack.rt:75:9
 part-put-end : tie.Need-part-put-end
 part-put-end c =
-    let A = c .before .before .before .before .before .before .before .before .before .before .before .before .before .before .before .before .before .before .before .before .before .before .before .before .before .before .before .before .before .before .before .before .before .before .before .before .before .before .before .before .before .before .before .args in
-    let P = c .before .before .before .before .before .before .before .before .before .before .before .before .before .before .before .before .before .before .before .before .before .before .before .before .before .before .before .before .before .before .before .before .before .before .before .before .before .before .before .before .before .before .before .pre in
+    let A = c .before .before .before .before .before .before .before .before .before .before .before .before .before .before .before .before .before .before .before .before .before .before .before .before .before .before .before .before .before .before .before .before .before .before .before .before .before .before .before .before .before .before .before .before .before .args in
+    let P = c .before .before .before .before .before .before .before .before .before .before .before .before .before .before .before .before .before .before .before .before .before .before .before .before .before .before .before .before .before .before .before .before .before .before .before .before .before .before .before .before .before .before .before .before .before .pre in
     let B = P .1 .0 in
     let L = c .before .before .before .before .before .before .before .before .before .before .before .before .before .before .before .before .before .before .before .layer in
     let size = A .h * A .rb in
@@ -130,8 +130,8 @@ part-put-end c =
 -- src/stack.rt:75:5
 put-requires : tie.Need-put-requires
 put-requires c κs =
-    let A = c .before .before .before .before .before .before .before .before .before .before .before .before .before .before .before .before .before .before .before .before .before .before .before .before .before .before .before .before .before .before .before .before .before .before .before .before .before .before .before .before .before .before .before .before .before .args in
-    let P = c .before .before .before .before .before .before .before .before .before .before .before .before .before .before .before .before .before .before .before .before .before .before .before .before .before .before .before .before .before .before .before .before .before .before .before .before .before .before .before .before .before .before .before .before .before .pre in
+    let A = c .before .before .before .before .before .before .before .before .before .before .before .before .before .before .before .before .before .before .before .before .before .before .before .before .before .before .before .before .before .before .before .before .before .before .before .before .before .before .before .before .before .before .before .before .before .before .before .args in
+    let P = c .before .before .before .before .before .before .before .before .before .before .before .before .before .before .before .before .before .before .before .before .before .before .before .before .before .before .before .before .before .before .before .before .before .before .before .before .before .before .before .before .before .before .before .before .before .before .before .pre in
     let B = P .1 .0 in
     let L = c .before .before .before .before .before .before .before .before .before .before .before .before .before .before .before .before .before .before .before .before .before .layer in
     let size = A .h * A .rb in
@@ -143,11 +143,17 @@ put-requires c κs =
 
 -- src/stack.rt:26:1
 same-length : tie.Need-same-length
-same-length c = same-len-mid (c .before .before .before .before .before .before .before .before .before .before .before .before .before .before .before .before .before .before .before .before .before .before .before .before .before .before .before .before .before .before .before .before .before .before .before .before .before .before .before .before .before .before .before .before .before .before .before .before .args .i * (c .before .before .before .before .before .before .before .before .before .before .before .before .before .before .before .before .before .before .before .before .before .before .before .before .before .before .before .before .before .before .before .before .before .before .before .before .before .before .before .before .before .before .before .before .before .before .before .before .args .h * c .before .before .before .before .before .before .before .before .before .before .before .before .before .before .before .before .before .before .before .before .before .before .before .before .before .before .before .before .before .before .before .before .before .before .before .before .before .before .before .before .before .before .before .before .before .before .before .before .args .rb)) (c .before .before .before .before .before .before .before .before .before .before .before .before .before .before .before .before .before .before .before .before .before .before .before .before .before .before .before .before .before .before .before .before .before .before .before .before .before .before .before .before .before .before .before .before .before .before .before .before .args .i * (c .before .before .before .before .before .before .before .before .before .before .before .before .before .before .before .before .before .before .before .before .before .before .before .before .before .before .before .before .before .before .before .before .before .before .before .before .before .before .before .before .before .before .before .before .before .before .before .before .args .h * c .before .before .before .before .before .before .before .before .before .before .before .before .before .before .before .before .before .before .before .before .before .before .before .before .before .before .before .before .before .before .before .before .before .before .before .before .before .before .before .before .before .before .before .before .before .before .before .before .args .rb) + c .before .before .before .before .before .before .before .before .before .before .before .before .before .before .before .before .before .before .before .before .before .before .before .before .before .before .before .before .before .before .before .before .before .before .before .before .before .before .before .before .before .before .before .before .before .before .before .before .args .h * c .before .before .before .before .before .before .before .before .before .before .before .before .before .before .before .before .before .before .before .before .before .before .before .before .before .before .before .before .before .before .before .before .before .before .before .before .before .before .before .before .before .before .before .before .before .before .before .before .args .rb - c .before .before .before .before .before .before .before .before .before .before .before .before .before .before .before .before .before .before .before .before .before .before .before .before .before .before .before .before .before .before .before .before .before .before .before .before .before .before .before .before .before .before .before .before .before .before .before .before .args .i * (c .before .before .before .before .before .before .before .before .before .before .before .before .before .before .before .before .before .before .before .before .before .before .before .before .before .before .before .before .before .before .before .before .before .before .before .before .before .before .before .before .before .before .before .before .before .before .before .before .args .h * c .before .before .before .before .before .before .before .before .before .before .before .before .before .before .before .before .before .before .before .before .before .before .before .before .before .before .before .before .before .before .before .before .before .before .before .before .before .before .before .before .before .before .before .before .before .before .before .before .args .rb)) (c .before .before .before .before .before .before .before .before .before .before .before .before .before .before .before .before .before .before .before .before .before .before .before .before .before .before .before .before .before .before .before .before .before .before .before .before .before .before .before .before .before .before .before .before .before .before .before .before .args .support .now) (c .before .before .before .before .before .before .before .before .before .before .before .before .before .before .before .before .before .before .before .before .before .before .before .before .layer .last .1 .1 .1 .0) (c .before .before .before .before .before .before .before .before .before .before .before .before .before .before .before .before .before .before .before .before .before .before .before .before .layer .kept .1 .1 .1 .0)
+same-length c =
+    let A = c .before .before .before .before .before .before .before .before .before .before .before .before .before .before .before .before .before .before .before .before .before .before .before .before .before .before .before .before .before .before .before .before .before .before .before .before .before .before .before .before .before .before .before .before .before .before .before .before .before .before .args in
+    let size = A .h * A .rb in
+    same-len-mid (A .i * size) (A .i * size + size - A .i * size) (A .support .now) (c .before .before .before .before .before .before .before .before .before .before .before .before .before .before .before .before .before .before .before .before .before .before .before .before .layer .last .1 .1 .1 .0) (c .before .before .before .before .before .before .before .before .before .before .before .before .before .before .before .before .before .before .before .before .before .before .before .before .layer .kept .1 .1 .1 .0)
 
 -- src/stack.rt:26:1
 same-length-2 : tie.Need-same-length-2
-same-length-2 c = same-len-mid (c .before .before .before .before .before .before .before .before .before .before .before .before .before .before .before .before .before .before .before .before .before .before .before .before .before .before .before .before .before .before .before .before .before .before .before .before .before .before .before .before .before .before .before .before .before .before .before .before .args .i * (c .before .before .before .before .before .before .before .before .before .before .before .before .before .before .before .before .before .before .before .before .before .before .before .before .before .before .before .before .before .before .before .before .before .before .before .before .before .before .before .before .before .before .before .before .before .before .before .before .args .h * c .before .before .before .before .before .before .before .before .before .before .before .before .before .before .before .before .before .before .before .before .before .before .before .before .before .before .before .before .before .before .before .before .before .before .before .before .before .before .before .before .before .before .before .before .before .before .before .before .args .w)) (c .before .before .before .before .before .before .before .before .before .before .before .before .before .before .before .before .before .before .before .before .before .before .before .before .before .before .before .before .before .before .before .before .before .before .before .before .before .before .before .before .before .before .before .before .before .before .before .before .args .i * (c .before .before .before .before .before .before .before .before .before .before .before .before .before .before .before .before .before .before .before .before .before .before .before .before .before .before .before .before .before .before .before .before .before .before .before .before .before .before .before .before .before .before .before .before .before .before .before .before .args .h * c .before .before .before .before .before .before .before .before .before .before .before .before .before .before .before .before .before .before .before .before .before .before .before .before .before .before .before .before .before .before .before .before .before .before .before .before .before .before .before .before .before .before .before .before .before .before .before .before .args .w) + c .before .before .before .before .before .before .before .before .before .before .before .before .before .before .before .before .before .before .before .before .before .before .before .before .before .before .before .before .before .before .before .before .before .before .before .before .before .before .before .before .before .before .before .before .before .before .before .before .args .h * c .before .before .before .before .before .before .before .before .before .before .before .before .before .before .before .before .before .before .before .before .before .before .before .before .before .before .before .before .before .before .before .before .before .before .before .before .before .before .before .before .before .before .before .before .before .before .before .before .args .w - c .before .before .before .before .before .before .before .before .before .before .before .before .before .before .before .before .before .before .before .before .before .before .before .before .before .before .before .before .before .before .before .before .before .before .before .before .before .before .before .before .before .before .before .before .before .before .before .before .args .i * (c .before .before .before .before .before .before .before .before .before .before .before .before .before .before .before .before .before .before .before .before .before .before .before .before .before .before .before .before .before .before .before .before .before .before .before .before .before .before .before .before .before .before .before .before .before .before .before .before .args .h * c .before .before .before .before .before .before .before .before .before .before .before .before .before .before .before .before .before .before .before .before .before .before .before .before .before .before .before .before .before .before .before .before .before .before .before .before .before .before .before .before .before .before .before .before .before .before .before .before .args .w)) (c .before .before .before .before .before .before .before .before .before .before .before .before .before .before .before .before .before .before .before .before .before .before .before .before .before .before .before .before .before .before .before .before .before .before .before .before .before .before .before .before .before .before .before .before .before .before .before .before .args .rings .now) (c .before .before .before .before .before .before .before .before .before .before .before .before .before .before .before .before .before .before .before .before .before .before .before .before .layer .last .1 .1 .1 .1 .0) (c .before .before .before .before .before .before .before .before .before .before .before .before .before .before .before .before .before .before .before .before .before .before .before .before .layer .kept .1 .1 .1 .1 .0)
+same-length-2 c =
+    let A = c .before .before .before .before .before .before .before .before .before .before .before .before .before .before .before .before .before .before .before .before .before .before .before .before .before .before .before .before .before .before .before .before .before .before .before .before .before .before .before .before .before .before .before .before .before .before .before .before .before .before .args in
+    let area = A .h * A .w in
+    same-len-mid (A .i * area) (A .i * area + area - A .i * area) (A .rings .now) (c .before .before .before .before .before .before .before .before .before .before .before .before .before .before .before .before .before .before .before .before .before .before .before .before .layer .last .1 .1 .1 .1 .0) (c .before .before .before .before .before .before .before .before .before .before .before .before .before .before .before .before .before .before .before .before .before .before .before .before .layer .kept .1 .1 .1 .1 .0)
 
 -- src/stack.rt:26:1
 same-length-3 : tie.Need-same-length-3
@@ -156,8 +162,8 @@ same-length-3 c = c .before .before .put .kept .1 .0
 -- src/stack.rt:26:1
 returns : tie.Need-returns
 returns c =
-    let A = c .before .before .before .before .before .before .before .before .before .before .before .before .before .before .before .before .before .before .before .before .before .before .before .before .before .before .before .before .before .before .before .before .before .before .before .before .before .before .before .before .before .before .before .before .before .before .before .before .args in
-    let P = c .before .before .before .before .before .before .before .before .before .before .before .before .before .before .before .before .before .before .before .before .before .before .before .before .before .before .before .before .before .before .before .before .before .before .before .before .before .before .before .before .before .before .before .before .before .before .before .before .pre in
+    let A = c .before .before .before .before .before .before .before .before .before .before .before .before .before .before .before .before .before .before .before .before .before .before .before .before .before .before .before .before .before .before .before .before .before .before .before .before .before .before .before .before .before .before .before .before .before .before .before .before .before .before .args in
+    let P = c .before .before .before .before .before .before .before .before .before .before .before .before .before .before .before .before .before .before .before .before .before .before .before .before .before .before .before .before .before .before .before .before .before .before .before .before .before .before .before .before .before .before .before .before .before .before .before .before .before .before .pre in
     let B = P .1 .0 in
     let L = c .before .before .before .before .before .before .before .before .before .before .before .before .before .before .before .before .before .before .before .before .before .before .before .before .layer in
     let size = A .h * A .rb in

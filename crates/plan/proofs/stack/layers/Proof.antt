@@ -10,19 +10,19 @@ use Rattle.plan.proofs.stack.layers.Statement.{statement}
 use Rattle.plan.proofs.stack.layers.Tie as tie
 
 abbrev Inv-loop : tie.InvT-loop
-Inv-loop part support₀ rings₀ above₀ left₀ got₀ front₀ next₀ seed₀ lower₀ ahead₀ w h n rb q i₀ support rings above left got front next seed lower ahead i =
+Inv-loop part support₀ rings₀ above₀ left₀ got₀ front₀ next₀ seed₀ lower₀ ahead₀ w h n rb q half ones i₀ support rings above left got front next seed lower ahead i =
     (length support ≡ length support₀) × (length rings ≡ length rings₀) × (length above ≡ length above₀) × (i ≤ n - 1) × Down w h n (q .0) i part support rings above × Spare w h left got front next seed lower ahead
 
 abbrev μ-loop : tie.MeasureT-loop
-μ-loop part support₀ rings₀ above₀ left₀ got₀ front₀ next₀ seed₀ lower₀ ahead₀ w h n rb q i₀ support rings above left got front next seed lower ahead i = i
+μ-loop part support₀ rings₀ above₀ left₀ got₀ front₀ next₀ seed₀ lower₀ ahead₀ w h n rb q half ones i₀ support rings above left got front next seed lower ahead i = i
 
 -- src/stack.rt:104:17
 sub-i : tie.Need-sub-i Inv-loop μ-loop
-sub-i c = omega (arith, c .before .before .before .before .before .before .before .before .before .before .before .pre .0 .2)
+sub-i c = omega (arith, c .before .before .before .before .before .before .before .before .before .before .before .before .before .pre .0 .2)
 
 -- src/stack.rt:105:5
 loop-holds : tie.Need-loop-holds Inv-loop μ-loop
-loop-holds c = (refl, refl, refl, omega arith, c .before .before .before .before .before .before .before .before .before .before .before .pre .1 .1 .0, c .before .before .before .before .before .before .before .before .before .before .before .pre .1 .1 .1)
+loop-holds c = (refl, refl, refl, omega arith, c .before .before .before .before .before .before .before .before .before .before .before .before .before .pre .1 .1 .0, c .before .before .before .before .before .before .before .before .before .before .before .before .before .pre .1 .1 .1)
 
 -- src/stack.rt:106:9
 sub-i-2 : tie.Need-sub-i-2 Inv-loop μ-loop
@@ -31,11 +31,11 @@ sub-i-2 c = omega (arith, c .loop-test .taken)
 -- src/stack.rt:107:9
 layer-at-requires : tie.Need-layer-at-requires Inv-loop μ-loop
 layer-at-requires c κs =
-    let A = c .before .before .before .before .before .before .before .before .before .before .before .before .before .before .before .before .before .before .before .before .before .before .before .args in
-    let P = c .before .before .before .before .before .before .before .before .before .before .before .before .before .before .before .before .before .before .before .before .before .before .before .pre in
+    let A = c .before .before .before .before .before .before .before .before .before .before .before .before .before .before .before .before .before .before .before .before .before .before .before .before .before .args in
+    let P = c .before .before .before .before .before .before .before .before .before .before .before .before .before .before .before .before .before .before .before .before .before .before .before .before .before .pre in
     let L = c .before .before .before .before .before .before .before .before .before .before .before .loop in
     let e : L .i ≡ L .i - 1 + 1 = omega (arith, c .before .before .before .before .before .before .before .before .before .before .loop-test .taken) in (
-      (P .0 .0, P .0 .1, omega (arith, L .inv .3, c .before .before .before .before .before .before .before .before .before .before .loop-test .taken)),
+      (P .0 .0, P .0 .1, omega (arith, L .inv .3, c .before .before .before .before .before .before .before .before .before .before .loop-test .taken), P .0 .3, P .0 .4),
       (
         record { part-long = P .1 .0 .part-long; clean = P .1 .0 .clean; support-long = L .inv .0 ∙ P .1 .0 .support-long; rings-long = L .inv .1 ∙ P .1 .0 .rings-long },
         (subst (λ (k : ℕ). Down (A .w) (A .h) (A .n) (A .q .0) k (A .part .now) (L .support) (L .rings) (L .above)) e (L .inv .4), L .inv .5),
@@ -64,37 +64,37 @@ same-length-3 c = c .before .loop .inv .2
 
 -- src/stack.rt:79:1
 same-length-4 : tie.Need-same-length-4 Inv-loop μ-loop
-same-length-4 c = c .before .loop .inv .5 .left-empty .long ∙ sym (c .before .before .before .before .before .before .before .before .before .before .before .before .before .pre .1 .1 .1 .left-empty .long)
+same-length-4 c = c .before .loop .inv .5 .left-empty .long ∙ sym (c .before .before .before .before .before .before .before .before .before .before .before .before .before .before .before .pre .1 .1 .1 .left-empty .long)
 
 -- src/stack.rt:79:1
 same-length-5 : tie.Need-same-length-5 Inv-loop μ-loop
-same-length-5 c = c .before .loop .inv .5 .got-empty .long ∙ sym (c .before .before .before .before .before .before .before .before .before .before .before .before .before .pre .1 .1 .1 .got-empty .long)
+same-length-5 c = c .before .loop .inv .5 .got-empty .long ∙ sym (c .before .before .before .before .before .before .before .before .before .before .before .before .before .before .before .pre .1 .1 .1 .got-empty .long)
 
 -- src/stack.rt:79:1
 same-length-6 : tie.Need-same-length-6 Inv-loop μ-loop
-same-length-6 c = c .before .loop .inv .5 .front-empty .long ∙ sym (c .before .before .before .before .before .before .before .before .before .before .before .before .before .pre .1 .1 .1 .front-empty .long)
+same-length-6 c = c .before .loop .inv .5 .front-empty .long ∙ sym (c .before .before .before .before .before .before .before .before .before .before .before .before .before .before .before .pre .1 .1 .1 .front-empty .long)
 
 -- src/stack.rt:79:1
 same-length-7 : tie.Need-same-length-7 Inv-loop μ-loop
-same-length-7 c = c .before .loop .inv .5 .next-empty .long ∙ sym (c .before .before .before .before .before .before .before .before .before .before .before .before .before .pre .1 .1 .1 .next-empty .long)
+same-length-7 c = c .before .loop .inv .5 .next-empty .long ∙ sym (c .before .before .before .before .before .before .before .before .before .before .before .before .before .before .before .pre .1 .1 .1 .next-empty .long)
 
 -- src/stack.rt:79:1
 same-length-8 : tie.Need-same-length-8 Inv-loop μ-loop
-same-length-8 c = c .before .loop .inv .5 .seed-ready .long ∙ sym (c .before .before .before .before .before .before .before .before .before .before .before .before .before .pre .1 .1 .1 .seed-ready .long)
+same-length-8 c = c .before .loop .inv .5 .seed-ready .long ∙ sym (c .before .before .before .before .before .before .before .before .before .before .before .before .before .before .before .pre .1 .1 .1 .seed-ready .long)
 
 -- src/stack.rt:79:1
 same-length-9 : tie.Need-same-length-9 Inv-loop μ-loop
-same-length-9 c = c .before .loop .inv .5 .lower-ready .long ∙ sym (c .before .before .before .before .before .before .before .before .before .before .before .before .before .pre .1 .1 .1 .lower-ready .long)
+same-length-9 c = c .before .loop .inv .5 .lower-ready .long ∙ sym (c .before .before .before .before .before .before .before .before .before .before .before .before .before .before .before .pre .1 .1 .1 .lower-ready .long)
 
 -- src/stack.rt:79:1
 same-length-10 : tie.Need-same-length-10 Inv-loop μ-loop
-same-length-10 c = c .before .loop .inv .5 .ahead-long ∙ sym (c .before .before .before .before .before .before .before .before .before .before .before .before .before .pre .1 .1 .1 .ahead-long)
+same-length-10 c = c .before .loop .inv .5 .ahead-long ∙ sym (c .before .before .before .before .before .before .before .before .before .before .before .before .before .before .before .pre .1 .1 .1 .ahead-long)
 
 -- src/stack.rt:79:1
 returns : tie.Need-returns Inv-loop μ-loop
 returns c =
-    let A = c .before .before .before .before .before .before .before .before .before .before .before .before .before .args in
-    let P = c .before .before .before .before .before .before .before .before .before .before .before .before .before .pre in
+    let A = c .before .before .before .before .before .before .before .before .before .before .before .before .before .before .before .args in
+    let P = c .before .before .before .before .before .before .before .before .before .before .before .before .before .before .before .pre in
     let L = c .before .loop in
     let z : L .i ≡ 0 = omega (arith, c .loop-test .left) in
     down-end (A .w) (A .h) (A .n) (A .q .0) (P .0 .0 .sizes .w-min) (A .part .now) (P .1 .0 .part-long) (L .support) (L .rings) (L .above) (L .inv .0 ∙ P .1 .0 .support-long) (L .inv .1 ∙ P .1 .0 .rings-long)

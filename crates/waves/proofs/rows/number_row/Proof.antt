@@ -9,22 +9,22 @@ use Rattle.waves.proofs.rows.number_row.Tie as tie
 -- src/rows.rt:17:5
 number-requires : tie.Need-number-requires
 unfolding column
-number-requires c κs = λ k l on. let z = word-room _ _ _ _ _ _ _ 0 _ (refl, omega arith) (c .before .before .pre .0) refl k l on in omega arith
+number-requires c κs = (λ k l on. let z = word-room _ _ _ _ _ _ _ 0 _ (refl, omega arith) (c .before .before .before .pre .0) refl k l on in omega arith, c .before .before .before .pre .2)
 
 -- src/rows.rt:18:5
 number-requires-2 : tie.Need-number-requires-2
 unfolding column
-number-requires-2 c κs = word-room _ _ _ _ _ _ _ 1 _ (refl, omega arith) (c .before .before .before .before .before .before .pre .0) (c .before .before .before .number .kept .0)
+number-requires-2 c κs = (word-room _ _ _ _ _ _ _ 1 _ (refl, omega arith) (c .before .before .before .before .before .before .before .pre .0) (c .before .before .before .number .kept .0), c .before .before .before .before .before .before .before .pre .2)
 
 -- src/rows.rt:19:5
 number-requires-3 : tie.Need-number-requires-3
 unfolding column
-number-requires-3 c κs = word-room _ _ _ _ _ _ _ 2 _ (refl, omega arith) (c .before .before .before .before .before .before .before .before .before .before .pre .0) (c .before .before .before .number2 .kept .0 ∙ c .before .before .before .before .before .before .before .number .kept .0)
+number-requires-3 c κs = (word-room _ _ _ _ _ _ _ 2 _ (refl, omega arith) (c .before .before .before .before .before .before .before .before .before .before .before .pre .0) (c .before .before .before .number2 .kept .0 ∙ c .before .before .before .before .before .before .before .number .kept .0), c .before .before .before .before .before .before .before .before .before .before .before .pre .2)
 
 -- src/rows.rt:20:5
 number-requires-4 : tie.Need-number-requires-4
 unfolding column
-number-requires-4 c κs = word-room _ _ _ _ _ _ _ 3 _ (refl, omega arith) (c .before .before .before .before .before .before .before .before .before .before .before .before .before .before .pre .0) (c .before .before .before .number3 .kept .0 ∙ c .before .before .before .before .before .before .before .number2 .kept .0 ∙ c .before .before .before .before .before .before .before .before .before .before .before .number .kept .0)
+number-requires-4 c κs = (word-room _ _ _ _ _ _ _ 3 _ (refl, omega arith) (c .before .before .before .before .before .before .before .before .before .before .before .before .before .before .before .pre .0) (c .before .before .before .number3 .kept .0 ∙ c .before .before .before .before .before .before .before .number2 .kept .0 ∙ c .before .before .before .before .before .before .before .before .before .before .before .number .kept .0), c .before .before .before .before .before .before .before .before .before .before .before .before .before .before .before .pre .2)
 
 -- src/rows.rt:13:1
 returns : tie.Need-returns

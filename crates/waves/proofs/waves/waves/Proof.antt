@@ -10,42 +10,42 @@ use Rattle.waves.proofs.waves.waves.Statement.{statement}
 use Rattle.waves.proofs.waves.waves.Tie as tie
 
 abbrev Inv-loop : tie.InvT-loop
-Inv-loop ring₀ front₀ next₀ left₀ got₀ ahead w h k t least n₀ ring front next left got n = (0 < n) × (n ≤ t) × Afloat w h ahead front left got ring × Room w h ahead front × Room w h ahead next × ((over seed : Plane) → Waved w h k over seed front₀ left₀ got₀ ring₀ → Waved w h n over seed front left got ring)
+Inv-loop ring₀ front₀ next₀ left₀ got₀ ahead w h k t least ones n₀ ring front next left got n = (0 < n) × (n ≤ t) × Afloat w h ahead front left got ring × Room w h ahead front × Room w h ahead next × ((over seed : Plane) → Waved w h k over seed front₀ left₀ got₀ ring₀ → Waved w h n over seed front left got ring)
 
 abbrev μ-loop : tie.MeasureT-loop
-μ-loop ring₀ front₀ next₀ left₀ got₀ ahead w h k t least n₀ ring front next left got n = t - n
+μ-loop ring₀ front₀ next₀ left₀ got₀ ahead w h k t least ones n₀ ring front next left got n = t - n
 
 -- src/waves.rt:91:5
 loop-holds : tie.Need-loop-holds Inv-loop μ-loop
-loop-holds c = (c .before .before .before .before .before .before .pre .1 .1 .0, c .before .before .before .before .before .before .pre .1 .1 .1, c .before .before .before .before .before .before .pre .0, c .before .before .before .before .before .before .pre .1 .0 .0, c .before .before .before .before .before .before .pre .1 .0 .1, λ o s W. W)
+loop-holds c = (c .before .before .before .before .before .before .before .pre .1 .1 .0, c .before .before .before .before .before .before .before .pre .1 .1 .1, c .before .before .before .before .before .before .before .pre .0, c .before .before .before .before .before .before .before .pre .1 .0 .0, c .before .before .before .before .before .before .before .pre .1 .0 .1, λ o s W. W)
 
 -- src/waves.rt:91:11
 add-loop : tie.Need-add-loop Inv-loop μ-loop
-add-loop c = omega (arith, c .before .before .before .before .before .before .before .pre .1 .1 .2)
+add-loop c = omega (arith, c .before .before .before .before .before .before .before .before .pre .1 .1 .2)
 
 -- src/waves.rt:92:13
 wave-requires : tie.Need-wave-requires Inv-loop μ-loop
-wave-requires c κs = (c .before .before .before .before .before .before .loop .inv .2, c .before .before .before .before .before .before .loop .inv .4)
+wave-requires c κs = (c .before .before .before .before .before .before .loop .inv .2, (c .before .before .before .before .before .before .loop .inv .4, c .before .before .before .before .before .before .before .before .before .before .before .before .before .before .pre .1 .1 .3))
 
 -- src/waves.rt:94:13
 same-length : tie.Need-same-length Inv-loop μ-loop
-same-length c = c .before .before .before .before .before .before .before .before .before .wave .ensures .0 .ring-long ∙ sym (c .before .before .before .before .before .before .before .before .before .before .before .before .before .before .before .before .before .before .before .before .before .before .before .pre .0 .ring-long)
+same-length c = c .before .before .before .before .before .before .before .before .before .wave .ensures .0 .ring-long ∙ sym (c .before .before .before .before .before .before .before .before .before .before .before .before .before .before .before .before .before .before .before .before .before .before .before .before .pre .0 .ring-long)
 
 -- src/waves.rt:94:13
 same-length-2 : tie.Need-same-length-2 Inv-loop μ-loop
-same-length-2 c = c .before .before .before .before .before .before .before .before .before .before .before .before .before .before .before .before .loop .inv .3 .ready .long ∙ sym (c .before .before .before .before .before .before .before .before .before .before .before .before .before .before .before .before .before .before .before .before .before .before .before .pre .1 .0 .0 .ready .long)
+same-length-2 c = c .before .before .before .before .before .before .before .before .before .before .before .before .before .before .before .before .loop .inv .3 .ready .long ∙ sym (c .before .before .before .before .before .before .before .before .before .before .before .before .before .before .before .before .before .before .before .before .before .before .before .before .pre .1 .0 .0 .ready .long)
 
 -- src/waves.rt:94:13
 same-length-3 : tie.Need-same-length-3 Inv-loop μ-loop
-same-length-3 c = c .before .before .before .before .before .before .before .before .before .wave .ensures .1 .0 .ready .long ∙ sym (c .before .before .before .before .before .before .before .before .before .before .before .before .before .before .before .before .before .before .before .before .before .before .before .pre .1 .0 .1 .ready .long)
+same-length-3 c = c .before .before .before .before .before .before .before .before .before .wave .ensures .1 .0 .ready .long ∙ sym (c .before .before .before .before .before .before .before .before .before .before .before .before .before .before .before .before .before .before .before .before .before .before .before .before .pre .1 .0 .1 .ready .long)
 
 -- src/waves.rt:94:13
 same-length-4 : tie.Need-same-length-4 Inv-loop μ-loop
-same-length-4 c = c .before .before .before .before .before .before .before .before .before .wave .ensures .0 .left-room .ready .long ∙ sym (c .before .before .before .before .before .before .before .before .before .before .before .before .before .before .before .before .before .before .before .before .before .before .before .pre .0 .left-room .ready .long)
+same-length-4 c = c .before .before .before .before .before .before .before .before .before .wave .ensures .0 .left-room .ready .long ∙ sym (c .before .before .before .before .before .before .before .before .before .before .before .before .before .before .before .before .before .before .before .before .before .before .before .before .pre .0 .left-room .ready .long)
 
 -- src/waves.rt:94:13
 same-length-5 : tie.Need-same-length-5 Inv-loop μ-loop
-same-length-5 c = c .before .before .before .before .before .before .before .before .before .wave .ensures .0 .got-room .ready .long ∙ sym (c .before .before .before .before .before .before .before .before .before .before .before .before .before .before .before .before .before .before .before .before .before .before .before .pre .0 .got-room .ready .long)
+same-length-5 c = c .before .before .before .before .before .before .before .before .before .wave .ensures .0 .got-room .ready .long ∙ sym (c .before .before .before .before .before .before .before .before .before .before .before .before .before .before .before .before .before .before .before .before .before .before .before .before .pre .0 .got-room .ready .long)
 
 -- src/waves.rt:94:13
 returns : tie.Need-returns Inv-loop μ-loop
@@ -79,27 +79,27 @@ copy-requires c κs = (c .before .before .before .before .before .before .before
 
 -- src/waves.rt:98:20
 add-result : tie.Need-add-result Inv-loop μ-loop
-add-result c = omega (arith, c .before .before .before .before .before .before .before .before .before .before .before .before .before .before .before .before .before .before .before .before .before .before .before .before .before .before .before .before .before .pre .1 .1 .2, c .before .before .before .before .before .before .before .before .before .before .before .before .before .before .before .before .before .before .before .before .before .loop-test .taken)
+add-result c = omega (arith, c .before .before .before .before .before .before .before .before .before .before .before .before .before .before .before .before .before .before .before .before .before .before .before .before .before .before .before .before .before .before .pre .1 .1 .2, c .before .before .before .before .before .before .before .before .before .before .before .before .before .before .before .before .before .before .before .before .before .loop-test .taken)
 
 -- src/waves.rt:98:13
 same-length-6 : tie.Need-same-length-6 Inv-loop μ-loop
-same-length-6 c = c .before .before .before .before .before .before .before .before .before .before .before .before .before .before .before .wave .ensures .0 .ring-long ∙ sym (c .before .before .before .before .before .before .before .before .before .before .before .before .before .before .before .before .before .before .before .before .before .before .before .before .before .before .before .before .before .pre .0 .ring-long)
+same-length-6 c = c .before .before .before .before .before .before .before .before .before .before .before .before .before .before .before .wave .ensures .0 .ring-long ∙ sym (c .before .before .before .before .before .before .before .before .before .before .before .before .before .before .before .before .before .before .before .before .before .before .before .before .before .before .before .before .before .before .pre .0 .ring-long)
 
 -- src/waves.rt:98:13
 same-length-7 : tie.Need-same-length-7 Inv-loop μ-loop
-same-length-7 c = c .before .before .copy .kept .1 .0 ∙ c .before .before .before .before .before .before .before .before .before .before .before .before .before .before .before .before .before .before .before .before .before .before .loop .inv .3 .ready .long ∙ sym (c .before .before .before .before .before .before .before .before .before .before .before .before .before .before .before .before .before .before .before .before .before .before .before .before .before .before .before .before .before .pre .1 .0 .0 .ready .long)
+same-length-7 c = c .before .before .copy .kept .1 .0 ∙ c .before .before .before .before .before .before .before .before .before .before .before .before .before .before .before .before .before .before .before .before .before .before .loop .inv .3 .ready .long ∙ sym (c .before .before .before .before .before .before .before .before .before .before .before .before .before .before .before .before .before .before .before .before .before .before .before .before .before .before .before .before .before .before .pre .1 .0 .0 .ready .long)
 
 -- src/waves.rt:98:13
 same-length-8 : tie.Need-same-length-8 Inv-loop μ-loop
-same-length-8 c = c .before .before .before .before .before .before .before .before .before .before .before .before .before .before .before .wave .ensures .1 .0 .ready .long ∙ sym (c .before .before .before .before .before .before .before .before .before .before .before .before .before .before .before .before .before .before .before .before .before .before .before .before .before .before .before .before .before .pre .1 .0 .1 .ready .long)
+same-length-8 c = c .before .before .before .before .before .before .before .before .before .before .before .before .before .before .before .wave .ensures .1 .0 .ready .long ∙ sym (c .before .before .before .before .before .before .before .before .before .before .before .before .before .before .before .before .before .before .before .before .before .before .before .before .before .before .before .before .before .before .pre .1 .0 .1 .ready .long)
 
 -- src/waves.rt:98:13
 same-length-9 : tie.Need-same-length-9 Inv-loop μ-loop
-same-length-9 c = c .before .before .before .before .before .before .before .before .before .before .before .before .before .before .before .wave .ensures .0 .left-room .ready .long ∙ sym (c .before .before .before .before .before .before .before .before .before .before .before .before .before .before .before .before .before .before .before .before .before .before .before .before .before .before .before .before .before .pre .0 .left-room .ready .long)
+same-length-9 c = c .before .before .before .before .before .before .before .before .before .before .before .before .before .before .before .wave .ensures .0 .left-room .ready .long ∙ sym (c .before .before .before .before .before .before .before .before .before .before .before .before .before .before .before .before .before .before .before .before .before .before .before .before .before .before .before .before .before .before .pre .0 .left-room .ready .long)
 
 -- src/waves.rt:98:13
 same-length-10 : tie.Need-same-length-10 Inv-loop μ-loop
-same-length-10 c = c .before .before .before .before .before .before .before .before .before .before .before .before .before .before .before .wave .ensures .0 .got-room .ready .long ∙ sym (c .before .before .before .before .before .before .before .before .before .before .before .before .before .before .before .before .before .before .before .before .before .before .before .before .before .before .before .before .before .pre .0 .got-room .ready .long)
+same-length-10 c = c .before .before .before .before .before .before .before .before .before .before .before .before .before .before .before .wave .ensures .0 .got-room .ready .long ∙ sym (c .before .before .before .before .before .before .before .before .before .before .before .before .before .before .before .before .before .before .before .before .before .before .before .before .before .before .before .before .before .before .pre .0 .got-room .ready .long)
 
 -- src/waves.rt:98:13
 returns-2 : tie.Need-returns-2 Inv-loop μ-loop
@@ -115,33 +115,36 @@ returns-2 c =
       ),
     )
 
+add-wave-2 : tie.Need-add-wave-2 Inv-loop μ-loop
+add-wave-2 c = omega (arith, c .before .before .before .before .before .before .before .before .before .before .before .before .before .before .before .before .before .before .before .before .before .before .before .before .before .before .before .before .before .before .pre .1 .1 .2, c .before .before .before .before .before .before .before .before .before .before .before .before .before .before .before .before .before .before .before .before .before .loop-test .taken)
+
 -- src/waves.rt:100:65
 cast-wave-2 : tie.Need-cast-wave-2 Inv-loop μ-loop
-cast-wave-2 c = omega (arith, c .before .before .before .before .before .before .before .before .before .before .before .before .before .before .before .before .before .before .before .before .before .before .before .before .before .before .before .before .before .pre .1 .1 .2, c .before .before .before .before .before .before .before .before .before .before .before .before .before .before .before .before .before .before .before .before .before .loop-test .taken)
+cast-wave-2 c = omega (arith, c .before .before .before .before .before .before .before .before .before .before .before .before .before .before .before .before .before .before .before .before .before .before .before .before .before .before .before .before .before .before .pre .1 .1 .2, c .before .before .before .before .before .before .before .before .before .before .before .before .before .before .before .before .before .before .before .before .before .loop-test .taken)
 
 -- src/waves.rt:100:13
 wave-requires-2 : tie.Need-wave-requires-2 Inv-loop μ-loop
-wave-requires-2 c κs = (c .before .before .before .before .before .before .before .before .before .before .before .before .before .before .before .wave .ensures .0, c .before .before .before .before .before .before .before .before .before .before .before .before .before .before .before .before .before .before .before .before .before .before .loop .inv .3)
+wave-requires-2 c κs = (c .before .before .before .before .before .before .before .before .before .before .before .before .before .before .before .wave .ensures .0, (c .before .before .before .before .before .before .before .before .before .before .before .before .before .before .before .before .before .before .before .before .before .before .loop .inv .3, c .before .before .before .before .before .before .before .before .before .before .before .before .before .before .before .before .before .before .before .before .before .before .before .before .before .before .before .before .before .before .pre .1 .1 .3))
 
 -- src/waves.rt:102:13
 same-length-11 : tie.Need-same-length-11 Inv-loop μ-loop
-same-length-11 c = c .before .before .before .before .before .before .before .before .before .wave2 .ensures .0 .ring-long ∙ sym (c .before .before .before .before .before .before .before .before .before .before .before .before .before .before .before .before .before .before .before .before .before .before .before .before .before .before .before .before .before .before .before .before .before .before .before .before .before .before .before .pre .0 .ring-long)
+same-length-11 c = c .before .before .before .before .before .before .before .before .before .wave2 .ensures .0 .ring-long ∙ sym (c .before .before .before .before .before .before .before .before .before .before .before .before .before .before .before .before .before .before .before .before .before .before .before .before .before .before .before .before .before .before .before .before .before .before .before .before .before .before .before .before .pre .0 .ring-long)
 
 -- src/waves.rt:102:13
 same-length-12 : tie.Need-same-length-12 Inv-loop μ-loop
-same-length-12 c = c .before .before .before .before .before .before .before .before .before .wave2 .ensures .0 .front-ready .long ∙ sym (c .before .before .before .before .before .before .before .before .before .before .before .before .before .before .before .before .before .before .before .before .before .before .before .before .before .before .before .before .before .before .before .before .before .before .before .before .before .before .before .pre .1 .0 .0 .ready .long)
+same-length-12 c = c .before .before .before .before .before .before .before .before .before .wave2 .ensures .0 .front-ready .long ∙ sym (c .before .before .before .before .before .before .before .before .before .before .before .before .before .before .before .before .before .before .before .before .before .before .before .before .before .before .before .before .before .before .before .before .before .before .before .before .before .before .before .before .pre .1 .0 .0 .ready .long)
 
 -- src/waves.rt:102:13
 same-length-13 : tie.Need-same-length-13 Inv-loop μ-loop
-same-length-13 c = c .before .before .before .before .before .before .before .before .before .before .before .before .before .before .before .before .before .before .before .before .before .before .before .before .before .wave .ensures .1 .0 .ready .long ∙ sym (c .before .before .before .before .before .before .before .before .before .before .before .before .before .before .before .before .before .before .before .before .before .before .before .before .before .before .before .before .before .before .before .before .before .before .before .before .before .before .before .pre .1 .0 .1 .ready .long)
+same-length-13 c = c .before .before .before .before .before .before .before .before .before .before .before .before .before .before .before .before .before .before .before .before .before .before .before .before .before .wave .ensures .1 .0 .ready .long ∙ sym (c .before .before .before .before .before .before .before .before .before .before .before .before .before .before .before .before .before .before .before .before .before .before .before .before .before .before .before .before .before .before .before .before .before .before .before .before .before .before .before .before .pre .1 .0 .1 .ready .long)
 
 -- src/waves.rt:102:13
 same-length-14 : tie.Need-same-length-14 Inv-loop μ-loop
-same-length-14 c = c .before .before .before .before .before .before .before .before .before .wave2 .ensures .0 .left-room .ready .long ∙ sym (c .before .before .before .before .before .before .before .before .before .before .before .before .before .before .before .before .before .before .before .before .before .before .before .before .before .before .before .before .before .before .before .before .before .before .before .before .before .before .before .pre .0 .left-room .ready .long)
+same-length-14 c = c .before .before .before .before .before .before .before .before .before .wave2 .ensures .0 .left-room .ready .long ∙ sym (c .before .before .before .before .before .before .before .before .before .before .before .before .before .before .before .before .before .before .before .before .before .before .before .before .before .before .before .before .before .before .before .before .before .before .before .before .before .before .before .before .pre .0 .left-room .ready .long)
 
 -- src/waves.rt:102:13
 same-length-15 : tie.Need-same-length-15 Inv-loop μ-loop
-same-length-15 c = c .before .before .before .before .before .before .before .before .before .wave2 .ensures .0 .got-room .ready .long ∙ sym (c .before .before .before .before .before .before .before .before .before .before .before .before .before .before .before .before .before .before .before .before .before .before .before .before .before .before .before .before .before .before .before .before .before .before .before .before .before .before .before .pre .0 .got-room .ready .long)
+same-length-15 c = c .before .before .before .before .before .before .before .before .before .wave2 .ensures .0 .got-room .ready .long ∙ sym (c .before .before .before .before .before .before .before .before .before .before .before .before .before .before .before .before .before .before .before .before .before .before .before .before .before .before .before .before .before .before .before .before .before .before .before .before .before .before .before .before .pre .0 .got-room .ready .long)
 
 -- src/waves.rt:102:13
 returns-3 : tie.Need-returns-3 Inv-loop μ-loop
@@ -173,27 +176,27 @@ returns-3 c =
 
 -- src/waves.rt:104:9
 add-n : tie.Need-add-n Inv-loop μ-loop
-add-n c = omega (arith, c .before .before .before .before .before .before .before .before .before .before .before .before .before .before .before .before .before .before .before .before .before .before .before .before .before .before .before .before .before .before .before .before .before .before .before .before .before .before .before .pre .1 .1 .2, c .before .before .before .before .before .before .before .before .before .before .before .before .before .before .before .before .before .before .before .before .before .before .before .before .before .before .before .before .before .before .before .loop-test .taken)
+add-n c = omega (arith, c .before .before .before .before .before .before .before .before .before .before .before .before .before .before .before .before .before .before .before .before .before .before .before .before .before .before .before .before .before .before .before .before .before .before .before .before .before .before .before .before .pre .1 .1 .2, c .before .before .before .before .before .before .before .before .before .before .before .before .before .before .before .before .before .before .before .before .before .before .before .before .before .before .before .before .before .before .before .loop-test .taken)
 
 -- src/waves.rt:106:13
 same-length-16 : tie.Need-same-length-16 Inv-loop μ-loop
-same-length-16 c = c .before .before .before .before .before .before .before .before .before .before .wave2 .ensures .0 .ring-long ∙ sym (c .before .before .before .before .before .before .before .before .before .before .before .before .before .before .before .before .before .before .before .before .before .before .before .before .before .before .before .before .before .before .before .before .before .before .before .before .before .before .before .before .pre .0 .ring-long)
+same-length-16 c = c .before .before .before .before .before .before .before .before .before .before .wave2 .ensures .0 .ring-long ∙ sym (c .before .before .before .before .before .before .before .before .before .before .before .before .before .before .before .before .before .before .before .before .before .before .before .before .before .before .before .before .before .before .before .before .before .before .before .before .before .before .before .before .before .pre .0 .ring-long)
 
 -- src/waves.rt:106:13
 same-length-17 : tie.Need-same-length-17 Inv-loop μ-loop
-same-length-17 c = c .before .before .before .before .before .before .before .before .before .before .wave2 .ensures .0 .front-ready .long ∙ sym (c .before .before .before .before .before .before .before .before .before .before .before .before .before .before .before .before .before .before .before .before .before .before .before .before .before .before .before .before .before .before .before .before .before .before .before .before .before .before .before .before .pre .1 .0 .0 .ready .long)
+same-length-17 c = c .before .before .before .before .before .before .before .before .before .before .wave2 .ensures .0 .front-ready .long ∙ sym (c .before .before .before .before .before .before .before .before .before .before .before .before .before .before .before .before .before .before .before .before .before .before .before .before .before .before .before .before .before .before .before .before .before .before .before .before .before .before .before .before .before .pre .1 .0 .0 .ready .long)
 
 -- src/waves.rt:106:13
 same-length-18 : tie.Need-same-length-18 Inv-loop μ-loop
-same-length-18 c = c .before .before .before .before .before .before .before .before .before .before .before .before .before .before .before .before .before .before .before .before .before .before .before .before .before .before .wave .ensures .1 .0 .ready .long ∙ sym (c .before .before .before .before .before .before .before .before .before .before .before .before .before .before .before .before .before .before .before .before .before .before .before .before .before .before .before .before .before .before .before .before .before .before .before .before .before .before .before .before .pre .1 .0 .1 .ready .long)
+same-length-18 c = c .before .before .before .before .before .before .before .before .before .before .before .before .before .before .before .before .before .before .before .before .before .before .before .before .before .before .wave .ensures .1 .0 .ready .long ∙ sym (c .before .before .before .before .before .before .before .before .before .before .before .before .before .before .before .before .before .before .before .before .before .before .before .before .before .before .before .before .before .before .before .before .before .before .before .before .before .before .before .before .before .pre .1 .0 .1 .ready .long)
 
 -- src/waves.rt:106:13
 same-length-19 : tie.Need-same-length-19 Inv-loop μ-loop
-same-length-19 c = c .before .before .before .before .before .before .before .before .before .before .wave2 .ensures .0 .left-room .ready .long ∙ sym (c .before .before .before .before .before .before .before .before .before .before .before .before .before .before .before .before .before .before .before .before .before .before .before .before .before .before .before .before .before .before .before .before .before .before .before .before .before .before .before .before .pre .0 .left-room .ready .long)
+same-length-19 c = c .before .before .before .before .before .before .before .before .before .before .wave2 .ensures .0 .left-room .ready .long ∙ sym (c .before .before .before .before .before .before .before .before .before .before .before .before .before .before .before .before .before .before .before .before .before .before .before .before .before .before .before .before .before .before .before .before .before .before .before .before .before .before .before .before .before .pre .0 .left-room .ready .long)
 
 -- src/waves.rt:106:13
 same-length-20 : tie.Need-same-length-20 Inv-loop μ-loop
-same-length-20 c = c .before .before .before .before .before .before .before .before .before .before .wave2 .ensures .0 .got-room .ready .long ∙ sym (c .before .before .before .before .before .before .before .before .before .before .before .before .before .before .before .before .before .before .before .before .before .before .before .before .before .before .before .before .before .before .before .before .before .before .before .before .before .before .before .before .pre .0 .got-room .ready .long)
+same-length-20 c = c .before .before .before .before .before .before .before .before .before .before .wave2 .ensures .0 .got-room .ready .long ∙ sym (c .before .before .before .before .before .before .before .before .before .before .before .before .before .before .before .before .before .before .before .before .before .before .before .before .before .before .before .before .before .before .before .before .before .before .before .before .before .before .before .before .before .pre .0 .got-room .ready .long)
 
 -- src/waves.rt:106:13
 returns-4 : tie.Need-returns-4 Inv-loop μ-loop
@@ -217,23 +220,23 @@ loop-again c =
 
 -- src/waves.rt:70:1
 same-length-21 : tie.Need-same-length-21 Inv-loop μ-loop
-same-length-21 c = c .before .loop .inv .2 .ring-long ∙ sym (c .before .before .before .before .before .before .before .before .pre .0 .ring-long)
+same-length-21 c = c .before .loop .inv .2 .ring-long ∙ sym (c .before .before .before .before .before .before .before .before .before .pre .0 .ring-long)
 
 -- src/waves.rt:70:1
 same-length-22 : tie.Need-same-length-22 Inv-loop μ-loop
-same-length-22 c = c .before .loop .inv .3 .ready .long ∙ sym (c .before .before .before .before .before .before .before .before .pre .1 .0 .0 .ready .long)
+same-length-22 c = c .before .loop .inv .3 .ready .long ∙ sym (c .before .before .before .before .before .before .before .before .before .pre .1 .0 .0 .ready .long)
 
 -- src/waves.rt:70:1
 same-length-23 : tie.Need-same-length-23 Inv-loop μ-loop
-same-length-23 c = c .before .loop .inv .4 .ready .long ∙ sym (c .before .before .before .before .before .before .before .before .pre .1 .0 .1 .ready .long)
+same-length-23 c = c .before .loop .inv .4 .ready .long ∙ sym (c .before .before .before .before .before .before .before .before .before .pre .1 .0 .1 .ready .long)
 
 -- src/waves.rt:70:1
 same-length-24 : tie.Need-same-length-24 Inv-loop μ-loop
-same-length-24 c = c .before .loop .inv .2 .left-room .ready .long ∙ sym (c .before .before .before .before .before .before .before .before .pre .0 .left-room .ready .long)
+same-length-24 c = c .before .loop .inv .2 .left-room .ready .long ∙ sym (c .before .before .before .before .before .before .before .before .before .pre .0 .left-room .ready .long)
 
 -- src/waves.rt:70:1
 same-length-25 : tie.Need-same-length-25 Inv-loop μ-loop
-same-length-25 c = c .before .loop .inv .2 .got-room .ready .long ∙ sym (c .before .before .before .before .before .before .before .before .pre .0 .got-room .ready .long)
+same-length-25 c = c .before .loop .inv .2 .got-room .ready .long ∙ sym (c .before .before .before .before .before .before .before .before .before .pre .0 .got-room .ready .long)
 
 -- src/waves.rt:70:1
 returns-5 : tie.Need-returns-5 Inv-loop μ-loop
@@ -244,6 +247,6 @@ waves-spec =
     tie.close
     (tie.spec Inv-loop μ-loop loop-holds add-loop (λ c. search needs) (λ c. search needs) wave-requires same-length same-length-2
     same-length-3 same-length-4 same-length-5 returns copy-requires add-result same-length-6 same-length-7 same-length-8 same-length-9
-    same-length-10 returns-2 (λ c. search needs) cast-wave-2 wave-requires-2 same-length-11 same-length-12 same-length-13 same-length-14
+    same-length-10 returns-2 add-wave-2 cast-wave-2 wave-requires-2 same-length-11 same-length-12 same-length-13 same-length-14
     same-length-15 returns-3 add-n same-length-16 same-length-17 same-length-18 same-length-19 same-length-20 returns-4 loop-less loop-again
     same-length-21 same-length-22 same-length-23 same-length-24 same-length-25 returns-5)
