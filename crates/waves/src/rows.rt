@@ -9,15 +9,53 @@ ghost use Rattle.words.specs.Words.{Ones, column, wordBit};
 ghost use Rattle.planes.specs.Scratch.{fresh};
 ghost use Rattle.waves.specs.Rows.{RowBits, RowNumbers, RowWave};
 
+// Whether a row has many pixels, and its 256 places from `at` on lie in a list of n. Its first and its last word tell.
+fn many(x: Row, at: usize, n: usize) -> bool
+    ensures { λ d. ⌜ (d ≡ true → at + 256 ≤ n) ⌝ }
+{
+    if !words::single::quarters(x.a) {
+        return false;
+    }
+    if !words::single::quarters(x.d) {
+        return false;
+    }
+    if n < 256 {
+        return false;
+    }
+    at <= n - 256
+}
+
+// Eight places at a time: no branches, where their outcome could not be foreseen.
+fn number_many(ring: &mut [u16], at: usize, x: Row, v: u16, ones: &[u16])
+    requires { ⌜ (at + 256 ≤ length (now ring)) × Ones (now ones) ⌝ }
+    ensures { λ _. ⌜ RowNumbers at v (column x) (now (ring .entry)) (now (ring .exit)) ⌝ }
+{
+    words::ones::eights(ring, at, x.a, v, ones);
+    words::ones::eights(ring, at + 64, x.b, v, ones);
+    words::ones::eights(ring, at + 128, x.c, v, ones);
+    words::ones::eights(ring, at + 192, x.d, v, ones);
+}
+
+fn number_few(ring: &mut [u16], at: usize, x: Row, v: u16)
+    requires { ⌜ ((c : ℕ) → column x c ≡ true → at + c < length (now ring)) × (at ≤ 65536) ⌝ }
+    ensures { λ _. ⌜ RowNumbers at v (column x) (now (ring .entry)) (now (ring .exit)) ⌝ }
+{
+    words::single::number(ring, at, x.a, v);
+    words::single::number(ring, at + 64, x.b, v);
+    words::single::number(ring, at + 128, x.c, v);
+    words::single::number(ring, at + 192, x.d, v);
+}
+
 // Writes v at the pixels of a row; column 0 is place `at`.
 fn number_row(ring: &mut [u16], at: usize, x: Row, v: u16, ones: &[u16])
     requires { ⌜ ((c : ℕ) → column x c ≡ true → at + c < length (now ring)) × (at ≤ 65536) × Ones (now ones) ⌝ }
     ensures { λ _. ⌜ RowNumbers at v (column x) (now (ring .entry)) (now (ring .exit)) ⌝ }
 {
-    words::single::number(ring, at, x.a, v, ones);
-    words::single::number(ring, at + 64, x.b, v, ones);
-    words::single::number(ring, at + 128, x.c, v, ones);
-    words::single::number(ring, at + 192, x.d, v, ones);
+    if many(x, at, ring.len()) {
+        number_many(ring, at, x, v, ones);
+        return;
+    }
+    number_few(ring, at, x, v);
 }
 
 // Row y: what is left and touches `from` gets ring v and goes from left to got, and to `to`.

@@ -1,10 +1,10 @@
 // The bits of a word, one by one.
 ghost use mathlib.Core.Path.{_≡_};
 ghost use mathlib.Core.Bool.{true, false, not, _&&_};
-ghost use Prim.Native.Nat.{ℕ, _+_, _<_, _≤_};
+ghost use Prim.Native.Nat.{ℕ, _+_, _<_};
 ghost use lib.ListN.{length};
 ghost use lib.Dec.{eqb};
-ghost use Rattle.words.specs.Words.{Digits, bitOfWord, lastBit, Numbered, Ones};
+ghost use Rattle.words.specs.Words.{Digits, bitOfWord, lastBit, Numbered};
 
 // The word with bit k alone.
 pub fn bit(k: usize) -> u64
@@ -38,7 +38,7 @@ fn without_last(x: u64) -> u64
 }
 
 // Whether all four quarters of a word have a bit.
-fn quarters(m: u64) -> bool {
+pub fn quarters(m: u64) -> bool {
     if m >> 48 == 0 {
         return false;
     }
@@ -51,20 +51,8 @@ fn quarters(m: u64) -> bool {
     m % 65536 != 0
 }
 
-// Whether m has many bits, and its 64 places from x on lie in a list of n.
-fn many(m: u64, x: usize, n: usize) -> bool
-    ensures { λ d. ⌜ (d ≡ true → x + 64 ≤ n) ⌝ }
-{
-    if !quarters(m) {
-        return false;
-    }
-    if n < 64 {
-        return false;
-    }
-    x <= n - 64
-}
-
-fn few(l: &mut [u16], x: usize, m: u64, v: u16)
+// The number v at the places of the set bits of m; bit 0 is place x.
+pub fn number(l: &mut [u16], x: usize, m: u64, v: u16)
     requires { ⌜ ((k : ℕ) → k < 64 → bitOfWord m k ≡ true → x + k < length (now l)) ⌝ }
     ensures { λ _. ⌜ Numbered x m v (now (l .entry)) (now (l .exit)) ⌝ }
 {
@@ -74,16 +62,4 @@ fn few(l: &mut [u16], x: usize, m: u64, v: u16)
         l[x + k] = v;
         left = without_last(left);
     }
-}
-
-// The number v at the places of the set bits of m; bit 0 is place x. Where there are many, eight places at a time take no branches.
-pub fn number(l: &mut [u16], x: usize, m: u64, v: u16, ones: &[u16])
-    requires { ⌜ ((k : ℕ) → k < 64 → bitOfWord m k ≡ true → x + k < length (now l)) × Ones (now ones) ⌝ }
-    ensures { λ _. ⌜ Numbered x m v (now (l .entry)) (now (l .exit)) ⌝ }
-{
-    if many(m, x, l.len()) {
-        crate::ones::eights(l, x, m, v, ones);
-        return;
-    }
-    few(l, x, m, v);
 }
