@@ -15,7 +15,7 @@ use Rattle.rules.specs.Images.{Stack, Rings, pixel, ringAt, rowBytes, stackByte
 use Rattle.rules.specs.Reach.{reachOf, boundOf}
 use Rattle.rules.specs.Judging.{overlap, badRing, unheld, verdictOf}
 use Rattle.rules.specs.Jobs.{Job, headEnd, partEnd, supportEnd, settingsIn, storedIn, partIn, supportIn, layoutOf, fileLength}
-use Rattle.rules.specs.Calls.{saysReached, saysPlanned, saysJudged, saysRead, saysCopied, saysWritten, reachCases, reachAnswer, settingCases, lengthCases, planCases, planRefusal, planAnswer, judgeCases, judgeAnswer, sectionCases, readCases, readRefusal, readAnswer, partAnswer, supportAnswer, copyCases, copyAnswer, writeCases, writeRefusal, writeAnswer}
+use Rattle.rules.specs.Calls.{saysReached, saysPlanned, saysJudged, saysRead, saysCopied, saysWritten, reachCases, reachAnswer, settingCases, lengthCases, stackCases, bothCases, planCases, planRefusal, planAnswer, judgeCases, judgeAnswer, sectionCases, readCases, readRefusal, readAnswer, partAnswer, supportAnswer, copyCases, copyAnswer, writeCases, writeRefusal, writeAnswer}
 use Rattle.rules.specs.Demands.{FirstAt}
 use Rattle.rules.specs.declared.Micrometres.{Micrometres}
 use Rattle.rules.specs.declared.Settings.{Settings}
@@ -33,7 +33,7 @@ use Rattle.laws.specs.Refusals.{upTo, at-most, answer-refused}
 use Rattle.laws.specs.Limits.{Ranged, ranged, settable-out, stack-most}
 use Rattle.laws.specs.Demand1.{told-overlap, told-bad-ring, told-unheld}
 use Rattle.laws.specs.Judgements.{Verdict, accepted, overlapping, ring-is-bad, hanging, verdict-is}
-use Rattle.laws.specs.Demand3.{fine-out}
+use Rattle.laws.specs.StackTables.{judge-exactly}
 use Rattle.laws.specs.JobFiles.{accepted-exactly, rooms, writable-exactly, longest-job}
 use Rattle.laws.specs.Offsets.{longest-file}
 use Rattle.laws.specs.ReportLaws.{take-all}
@@ -128,7 +128,7 @@ reach-seen p t = go (refusal (reachCases p t)) refl (at-most 17 (reachCases p t)
     go (suc x) e h = number-back x h
 
 pub write-seen : (j : Job) (room : ℕ) → seesValue (packWritten (writeAnswer j room)) ≡ saysWritten (writeAnswer j room)
-unfolding writeAnswer writeRefusal writeCases settingCases reachCases upTo
+unfolding writeAnswer writeRefusal writeCases bothCases stackCases lengthCases settingCases reachCases upTo
 write-seen j room = go (refusal (writeCases j room)) refl (at-most 17 (writeCases j room) refl)
   where
     go : (x : ℕ) → refusal (writeCases j room) ≡ x → x ≤ 17 →
@@ -145,7 +145,7 @@ unfolding seesNumber
 small-number k h = let a : number k ≡ k = omega arith in rw a
 
 pub plan-seen : (s : Settings) (part : List ℕ) (a b : ℕ) → seesNumber (packPlanned (planAnswer s part a b)) ≡ saysPlanned (planAnswer s part a b)
-unfolding planAnswer planRefusal planCases settingCases reachCases lengthCases upTo
+unfolding planAnswer planRefusal planCases stackCases settingCases reachCases lengthCases upTo
 plan-seen s part a b = go (refusal (planCases s part a b)) (at-most 17 (planCases s part a b) refl)
   where
     go : (x : ℕ) → x ≤ 17 → seesNumber (packPlanned (answer x Done NotPlanned)) ≡ saysPlanned (answer x Done NotPlanned)
@@ -180,7 +180,7 @@ no-place x h =
     rw (a, le-ltb 8 (suc x) h)
 
 eight : (s : Settings) (part sup : List ℕ) (k : ℕ) → refusal (judgeCases s part sup k) ≤ 8
-unfolding judgeCases settingCases reachCases lengthCases upTo
+unfolding judgeCases bothCases stackCases settingCases reachCases lengthCases upTo
 eight s part sup k = at-most 8 (judgeCases s part sup k) refl
 
 module _ (s : Settings) (part sup l : List ℕ) where
@@ -215,7 +215,7 @@ module _ (s : Settings) (part sup l : List ℕ) where
       go : (x : ℕ) → refusal (judgeCases s part sup (length l)) ≡ x → x ≤ 8 →
           seesPlace (packJudged (answer x (verdictOf (s .w) (s .h) (s .n) (boundOf s) part sup l) NotJudged))
           ≡ saysJudged (answer x (verdictOf (s .w) (s .h) (s .n) (boundOf s) part sup l) NotJudged)
-      go zero e h = verdict-back (ranged s (fine-out s part sup (length l) e .settings)) (verdict-is (s .w) (s .h) (s .n) (boundOf s) part sup l) refl
+      go zero e h = verdict-back (ranged s (judge-exactly s part sup (length l) .0 e .stack .settings)) (verdict-is (s .w) (s .h) (s .n) (boundOf s) part sup l) refl
       go (suc x) e h = no-place x h
 
 -- Read, and the two stretches -----------------------------------------------------------------------------------------------------

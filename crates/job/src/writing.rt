@@ -1,29 +1,24 @@
 // Writing a job: the tests first, each answering 0 or the refusal, and then its four sections.
-use limits::padding_set;
-use limits::settings_refusal;
+use limits::both_refusal;
+use limits::rows_of;
 use rules::Settings;
 use sections::numbers::put_bytes;
 use sections::numbers::put16;
 use sections::numbers::put16s;
 use sections::numbers::put32;
-use sections::reading::allowed;
 use sections::sizes::HEAD_END;
 use sections::sizes::job_end;
 use sections::sizes::part_end;
-use sections::sizes::ring_count;
-use sections::sizes::rows_of;
-use sections::sizes::stack_bytes;
 use sections::sizes::support_end;
 ghost use mathlib.Core.Path.{_≡_};
 ghost use mathlib.Core.List.{_++_};
 ghost use Prim.Native.Nat.{_+_, _*_, _≤_};
 ghost use lib.ListN.{length};
 ghost use Rattle.rules.specs.Tools.{refusal};
-ghost use Rattle.rules.specs.Images.{rowBytes, stackBytes};
 ghost use Rattle.rules.specs.Jobs as jobs;
 ghost use Rattle.rules.specs.Jobs.{storedRows, headOf, fileOf, fileLength, over};
 ghost use Rattle.rules.specs.Calls.{settingCases, writeRefusal};
-ghost use Rattle.laws.specs.JobFiles.{Writable, writeLengths, writePadding, writeRoom};
+ghost use Rattle.laws.specs.JobFiles.{Writable, writeRoom};
 ghost use Rattle.job.specs.Writing.{job};
 
 // The count of section 3 for support of `k` bytes.
@@ -32,39 +27,6 @@ pub fn stored_rows(s: Settings, k: usize) -> usize
     ensures { λ r. ⌜ (r ≡ storedRows s k) × (r ≤ 131072) ⌝ }
 {
     if k == 0 { 0 } else { rows_of(s) }
-}
-
-fn length_refusal(s: Settings, part: usize, support: usize, rings: usize) -> u8
-    requires { ⌜ refusal (settingCases s) ≡ 0 ⌝ }
-    ensures { λ r. ⌜ r ≡ refusal (writeLengths s part support rings) ⌝ }
-{
-    let full = stack_bytes(s);
-    if part != full {
-        return 4;
-    }
-    if !allowed(support, 0, full) {
-        return 5;
-    }
-    let c = stored_rows(s, support);
-    if rings != ring_count(s, c) {
-        return 6;
-    }
-    0
-}
-
-fn padding_refusal(s: Settings, part: &[u8], support: &[u8]) -> u8
-    requires { ⌜ (refusal (settingCases s) ≡ 0) × (length (now part) ≡ stackBytes s) × (length (now support) ≡ storedRows s (length (now support)) * rowBytes (s .w)) ⌝ }
-    ensures { λ r. ⌜ r ≡ refusal (writePadding s (now (part .entry)) (now (support .entry))) ⌝ }
-{
-    let w = s.w;
-    if padding_set(part, w, rows_of(s)) {
-        return 7;
-    }
-    let c = stored_rows(s, support.len());
-    if padding_set(support, w, c) {
-        return 8;
-    }
-    0
 }
 
 fn room_refusal(length: usize, room: usize) -> u8
@@ -83,17 +45,9 @@ fn room_refusal(length: usize, room: usize) -> u8
 pub fn write_refusal(s: Settings, part: &[u8], support: &[u8], rings: &[u16], room: usize) -> u8
     ensures { λ r. ⌜ r ≡ writeRefusal (job s (now (part .entry)) (now (support .entry)) (now (rings .entry))) room ⌝ }
 {
-    let k = settings_refusal(s);
+    let k = both_refusal(s, support.len() != 0, part, support, rings.len());
     if k != 0 {
         return k;
-    }
-    let l = length_refusal(s, part.len(), support.len(), rings.len());
-    if l != 0 {
-        return l;
-    }
-    let p = padding_refusal(s, part, support);
-    if p != 0 {
-        return p;
     }
     let c = stored_rows(s, support.len());
     room_refusal(job_end(s, c), room)

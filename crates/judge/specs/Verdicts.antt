@@ -1,72 +1,29 @@
--- From the refusals' tests, and from what the three searches found, to the answer.
-use mathlib.Core.Path.{_≡_, refl, sym, ap, subst, _∙_}
-use mathlib.Core.Bool.{false, true, not}
-use mathlib.Core.List.{List, _++_, append-assoc}
+-- From what the three searches found to the answer.
+use mathlib.Core.Path.{_≡_, refl, ap}
+use mathlib.Core.Bool.{false, true}
+use mathlib.Core.List.{List}
 use Prim.Native.Nat.{ℕ, _-_, _*_, _/_, _<_, _≤_}
 use native.Mathlib.Nat.{mul-le-mul, div-le-self}
 use native.Mathlib.Omega.{arith}
-use lib.Dec.{eqb}
 use lib.ListN.{length}
-use borrow.Author.Tests.{eqb-true, not-false}
-use Rattle.rules.specs.Tools.{nothing, found, Case, refusal}
+use Rattle.rules.specs.Tools.{nothing, found, refusal}
 use Rattle.rules.specs.Images.{Stack, rowBytes, pixel, rowsOf, stackBytes, ringsIn, ringAt, paddingSet}
 use Rattle.rules.specs.Reach.{square, boundOf, reachOf}
 use Rattle.rules.specs.Judging.{overlap, badRing, unheld, firstIn, placeOf, tell, verdict, verdictOf}
-use Rattle.rules.specs.Calls.{reachCases, settingCases, lengthCases, judgeCases, judgeAnswer}
+use Rattle.rules.specs.Calls.{bothCases, judgeCases, judgeAnswer}
 use Rattle.rules.specs.Outcomes.{Judges}
 use Rattle.rules.specs.declared.Settings.{Settings}
 use Rattle.rules.specs.declared.Pixels.{Pixels}
 use Rattle.rules.specs.declared.Place.{Place}
 use Rattle.rules.specs.declared.Judged.{Judged}
 use Rattle.rules.specs.declared.Judged.the-variants.{Accepted, Refused, RefusedAt}
-use Rattle.laws.specs.Refusals.{numbered, orElse, else-none, else-some, refusal-append, case-out, answer-fine, answer-refused}
+use Rattle.laws.specs.Refusals.{says-no, says-yes}
 use Rattle.laws.specs.Limits.{Ranged, ranged}
-use Rattle.laws.specs.Demand3.{fine-out}
-use Rattle.places.specs.Search.{Least, flat, padCases, Sized}
+use Rattle.laws.specs.StackTables.{both-exactly}
+use Rattle.places.specs.Search.{Least, flat, Sized}
 use Rattle.places.specs.Finding.{least-found, least-nothing, least-none}
 use Rattle.quick.specs.Sound.{Whole, Fine}
 use Rattle.chains.specs.Amiss.{amissIn}
-
--- The refusals ------------------------------------------------------------------------------------------------------------
-
--- the table in the three parts that the code tests
-settings-numbered : (s : Settings) → numbered (settingCases s) ≡ true
-unfolding settingCases reachCases numbered
-settings-numbered s = refl
-
-lengths-numbered : (s : Settings) (part sup k : ℕ) → numbered (lengthCases s part sup k) ≡ true
-unfolding lengthCases numbered
-lengths-numbered s part sup k = refl
-
-judge-parts : (s : Settings) (part sup : List ℕ) (k : ℕ) → refusal (judgeCases s part sup k)
-    ≡ orElse (refusal (settingCases s)) (orElse (refusal (lengthCases s (length part) (length sup) k)) (refusal (padCases s part sup)))
-unfolding judgeCases padCases
-judge-parts s part sup k =
-    let ls : List Case = lengthCases s (length part) (length sup) k in
-    ap refusal (append-assoc (settingCases s) ls (padCases s part sup))
-    ∙ refusal-append (settingCases s) (ls ++ padCases s part sup) (settings-numbered s)
-    ∙ ap (orElse (refusal (settingCases s))) (refusal-append ls (padCases s part sup) (lengths-numbered s (length part) (length sup) k))
-
-module _ (s : Settings) (part sup : List ℕ) (k a : ℕ) (ea : a ≡ refusal (settingCases s)) where
-  pub by-settings : (a ≡ 0 → ⊥) → a ≡ refusal (judgeCases s part sup k)
-  by-settings ne = ea ∙ sym (judge-parts s part sup k ∙ else-some (refusal (settingCases s)) _ (λ z. ne (ea ∙ z)))
-
-  module _ (z : a ≡ 0) (b : ℕ) (eb : b ≡ refusal (lengthCases s (length part) (length sup) k)) where
-    pub by-lengths : (b ≡ 0 → ⊥) → b ≡ refusal (judgeCases s part sup k)
-    by-lengths ne =
-        eb ∙ sym (judge-parts s part sup k ∙ else-none (refusal (settingCases s)) _ (sym ea ∙ z) ∙ else-some (refusal (lengthCases s (length part) (length sup) k)) _ (λ y. ne (eb ∙ y)))
-
-    pub by-pads : b ≡ 0 → (d : ℕ) → d ≡ refusal (padCases s part sup) → d ≡ refusal (judgeCases s part sup k)
-    by-pads y d ed =
-        ed ∙ sym (judge-parts s part sup k ∙ else-none (refusal (settingCases s)) _ (sym ea ∙ z) ∙ else-none (refusal (lengthCases s (length part) (length sup) k)) _ (sym eb ∙ y))
-
--- lengths that are not refused
-pub lengths-out : (s : Settings) (part sup k : ℕ) → refusal (lengthCases s part sup k) ≡ 0 → (part ≡ stackBytes s) × (sup ≡ stackBytes s)
-unfolding lengthCases
-lengths-out s part sup k e =
-    let (a, e₁) = case-out (not (eqb part (stackBytes s))) 3 _ e in
-    let (b, e₂) = case-out (not (eqb sup (stackBytes s))) 4 _ e₁ in
-    (eqb-true part _ (not-false _ a), eqb-true sup _ (not-false _ b))
 
 -- The verdict -------------------------------------------------------------------------------------------------------------
 
@@ -102,31 +59,23 @@ module _ (w h n : ℕ) (q : ℕ → ℕ) (part sup rings : List ℕ) (o : ℕ) (
 
 -- The call ----------------------------------------------------------------------------------------------------------------
 
-module _ (s : Settings) (part sup rings : List ℕ) (a : ℕ) (ea : a ≡ refusal (judgeCases s part sup (length rings))) where
+module _ (s : Settings) (part sup rings : List ℕ) (a : ℕ) (ea : a ≡ refusal (bothCases s true part sup (length rings))) where
   pub judged-refused : (a ≡ 0 → ⊥) → Judges s part sup rings (Refused a)
-  unfolding judgeAnswer
-  judged-refused ne = record { answer = rw (← ea) (sym (answer-refused a _ Refused ne)) }
+  unfolding judgeAnswer judgeCases
+  judged-refused ne = record { answer = says-no _ Refused ea ne }
 
   pub judged-by : a ≡ 0 → (j : Judged) → j ≡ verdictOf (s .w) (s .h) (s .n) (boundOf s) part sup rings → Judges s part sup rings j
-  unfolding judgeAnswer
-  judged-by z j e = record { answer = e ∙ rw (← ea) (sym (answer-fine a _ Refused z)) }
+  unfolding judgeAnswer judgeCases
+  judged-by z j e = record { answer = says-yes _ Refused ea z e }
 
 -- What the sizes of a job say -----------------------------------------------------------------------------------------------
 
 pub plane-sized : (s : Settings) → Ranged s → Sized (s .w) (s .h)
 plane-sized s r = record { w-low = r .w-low; w-high = r .w-high; h-low = r .h-low; h-high = r .h-high }
 
-pub bytes-is : (s : Settings) (rb : ℕ) → rb ≡ rowBytes (s .w) → s .n * s .h * rb ≡ stackBytes s
-unfolding stackBytes rowsOf
-bytes-is s rb e = rw e
-
 pub rings-is : (s : Settings) → (s .n - 1) * (s .h * s .w) ≡ ringsIn s
 unfolding ringsIn
 rings-is s = refl
-
-pub rows-is : (s : Settings) → s .n * s .h ≡ rowsOf s
-unfolding rowsOf
-rows-is s = refl
 
 pub area-pos : (h w : ℕ) → 1 ≤ h → 1 ≤ w → 0 < h * w
 area-pos h w a b = omega (arith, mul-le-mul a b)
@@ -134,10 +83,6 @@ area-pos h w a b = omega (arith, mul-le-mul a b)
 pub stack-length : (s : Settings) (len : ℕ) → len ≡ stackBytes s → len ≡ s .n * s .h * rowBytes (s .w)
 unfolding stackBytes rowsOf
 stack-length s len e = e
-
-pub ring-count : (s : Settings) (len : ℕ) → len ≡ ringsIn s → len ≡ (s .n - 1) * (s .h * s .w)
-unfolding ringsIn
-ring-count s len e = e
 
 -- the layer of a place
 pub layer-most : (x a : ℕ) → x / a ≤ x
@@ -158,11 +103,12 @@ pub pixels-most : (s : Settings) → Ranged s → s .n * (s .h * s .w) ≤ 33554
 pixels-most s r = mul-le-mul (r .n-high) (mul-le-mul (r .h-high) (r .w-high))
 
 -- what is known of an input that is not refused
-pub verdict-ready : (s : Settings) (part sup rings : List ℕ) → refusal (judgeCases s part sup (length rings)) ≡ 0 →
+pub verdict-ready : (s : Settings) (part sup rings : List ℕ) → refusal (bothCases s true part sup (length rings)) ≡ 0 →
     Ranged s × ((length part ≡ stackBytes s) × ((length sup ≡ stackBytes s) × ((paddingSet (s .w) (rowsOf s) part ≡ false) × (length rings ≡ ringsIn s))))
 verdict-ready s part sup rings e =
-    let f = fine-out s part sup (length rings) e in
-    (ranged s (f .settings), (f .part-length, (f .sup-length, (f .part-clear, f .ring-count))))
+    let v = both-exactly s true part sup (length rings) .0 e .stack in
+    let l = v .lengths in
+    (ranged s (v .settings), (l .part-long, (l .support-long, (v .part-clear, l .ring-count))))
 
 -- the stack, as the searches take it
 pub whole-of : (s : Settings) (part sup rings : List ℕ) → Ranged s × ((length part ≡ stackBytes s) × ((length sup ≡ stackBytes s) × ((paddingSet (s .w) (rowsOf s) part ≡ false) × (length rings ≡ ringsIn s))))

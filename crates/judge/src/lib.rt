@@ -1,6 +1,4 @@
-// The checker, 'Judging a stack' of document 01: the call and its verdict.
-pub mod refusals;
-
+// The checker: the call and its verdict.
 use rules::Bound;
 use rules::Judged;
 use rules::Place;
@@ -73,7 +71,7 @@ fn verdict(s: Settings, part: &[u8], support: &[u8], rings: &[u16]) -> Judged
 pub fn judge(s: Settings, part: &[u8], support: &[u8], rings: &[u16]) -> Judged
     ensures { λ r. ⌜ Judges s (now (part .entry)) (now (support .entry)) (now (rings .entry)) r ⌝ }
 {
-    let a = crate::refusals::refused(s, part, support, rings);
+    let a = limits::both_refusal(s, true, part, support, rings.len());
     if a != 0 {
         return Judged::Refused(a);
     }

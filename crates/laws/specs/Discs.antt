@@ -11,7 +11,7 @@ use lib.Seq.{getD-set-same, getD-set-other, getD-append-add}
 use native.Mathlib.Decide.{decLe, ℕ-discrete}
 use borrow.Author.Tests.{leb-true, leb-false, le-leb, ltb-true, ltb-false}
 use Rattle.rules.specs.Tools.{largest, joinedUp}
-use Rattle.rules.specs.Reach.{square, root, halfWidth}
+use Rattle.rules.specs.Reach.{square, root, halfWidth, mostReach, mostBound, mostRows}
 use Rattle.laws.specs.Tests.{split, clash}
 
 -- The floor-root rule -------------------------------------------------------------------------------------------------
@@ -64,7 +64,7 @@ root-is m r low high =
     (λ t. absurd (omega (arith, square-mono (suc r) (root m) (leb-true _ _ t), root-low m)))
     (λ t. omega (arith, leb-false (suc r) (root m) t, root-most m r low))
 
-pub root-small : (m : ℕ) → m ≤ 1024 → root m ≤ 32
+pub root-small : (m : ℕ) → m ≤ mostBound → root m ≤ mostReach
 unfolding square
 root-small m h =
     split (leb 33 (root m))
@@ -85,25 +85,25 @@ half-width q d h = record {
   outside = λ e l. omega (arith, square-mono (suc (root (q - d * d))) e l, root-high (q - d * d));
 }
 
-pub half-small : (q d : ℕ) → q ≤ 1024 → halfWidth q d ≤ 32
+pub half-small : (q d : ℕ) → q ≤ mostBound → halfWidth q d ≤ mostReach
 unfolding halfWidth
 half-small q d m = root-small (q - square d) (omega arith)
 
 -- the half-widths of a disc, from the middle row on
 pub record Halves (q : ℕ) (l : List ℕ) : Type 0 where
-  pub long : length l ≡ 33
+  pub long : length l ≡ mostRows
   pub half : (d : ℕ) → d * d ≤ q → HalfWidth q d (getD l d 0)
-  pub last : getD l 0 0 ≤ 32
+  pub last : getD l 0 0 ≤ mostReach
 
 -- filled in up to row d
 pub record HalvesTo (q d : ℕ) (l : List ℕ) : Type 0 where
-  pub long : length l ≡ 33
+  pub long : length l ≡ mostRows
   pub half : (e : ℕ) → e < d → e * e ≤ q → getD l e 0 ≡ halfWidth q e
 
-pub halves-none : (q : ℕ) (l : List ℕ) → length l ≡ 33 → HalvesTo q 0 l
+pub halves-none : (q : ℕ) (l : List ℕ) → length l ≡ mostRows → HalvesTo q 0 l
 halves-none q l e = record { long = e; half = λ d x. absurd (omega arith) }
 
-pub halves-more : (q d v : ℕ) (l : List ℕ) → d < 33 → v ≡ halfWidth q d → HalvesTo q d l → HalvesTo q (d + 1) (set l d v)
+pub halves-more : (q d v : ℕ) (l : List ℕ) → d < mostRows → v ≡ halfWidth q d → HalvesTo q d l → HalvesTo q (d + 1) (set l d v)
 halves-more q d v l ld is H = record {
   long = length-set l d v ∙ H .long;
   half = λ e x y. elim (ℕ-discrete e d) [
@@ -112,7 +112,7 @@ halves-more q d v l ld is H = record {
   ];
 }
 
-pub halves-all : (q d : ℕ) (l : List ℕ) → q ≤ 1024 → q < d * d → 0 < d → HalvesTo q d l → Halves q l
+pub halves-all : (q d : ℕ) (l : List ℕ) → q ≤ mostBound → q < d * d → 0 < d → HalvesTo q d l → Halves q l
 halves-all q d l m h p H = record {
   long = H .long;
   half = λ e y. subst (HalfWidth q e) (sym (H .half e (below e y) y)) (half-width q e y);
@@ -122,8 +122,8 @@ halves-all q d l m h p H = record {
     below : (e : ℕ) → e * e ≤ q → e < d
     below e y = elim (decLe d e) [ yes a ↦ absurd (omega (arith, mul-le-mul a a)) | no a ↦ omega arith ]
 
-pub square-small : (q d : ℕ) → q ≤ 1024 → d * d ≤ q → d < 33
-square-small q d h e = elim (decLe 33 d) [ yes a ↦ absurd (omega (arith, mul-le-mul a a)) | no a ↦ omega arith ]
+pub square-small : (q d : ℕ) → q ≤ mostBound → d * d ≤ q → d < mostRows
+square-small q d h e = elim (decLe mostRows d) [ yes a ↦ absurd (omega (arith, mul-le-mul a a)) | no a ↦ omega arith ]
 
 pub some-row : (q d : ℕ) → q < d * d → 0 < d
 some-row q zero h = absurd (omega arith)
@@ -176,7 +176,7 @@ last-high = omega arith
 abbrev pub rootTable : List ℕ
 rootTable = joinedUp 0 32 rootRun ++ 32 ∷ []
 
-pub table-rule : (m : ℕ) → m ≤ 1024 → getD rootTable m 0 ≡ root m
+pub table-rule : (m : ℕ) → m ≤ mostBound → getD rootTable m 0 ≡ root m
 table-rule m h =
     split (ltb m 1024)
     (λ t.

@@ -11,7 +11,7 @@ use Rattle.rules.specs.Reach.{settable, reachOf, square, boundOf, apart, distan
 use Rattle.rules.specs.Planning.{shadow, near, seeds, reached, touch, source, touching, fits, grow, grown, ringPlane, rings, excused, supportUnder, topOf, planned, empty, plannedRings, plannedBytes, dilated, swallowed, growingSwallow, regionSubtraction}
 use Rattle.rules.specs.Judging.{overlap, badRing, unheld, firstIn, placeOf, tell, verdict, verdictOf}
 use Rattle.rules.specs.Jobs.{Job, be16, be32, put16, put32, get16s, put16s, headEnd, partEnd, supportCount, supportEnd, ringCount, jobEnd, settingsIn, storedIn, partIn, supportIn, ringsStored, layoutOf, storedRows, fileOf, fileLength, over}
-use Rattle.rules.specs.Calls.{saysPlanned, saysJudged, saysRead, saysCopied, saysWritten, reachCases, settingCases, lengthCases, planCases, planRefusal, planAnswer, planSupport, planRings, judgeCases, judgeAnswer, sectionCases, readCases, readRefusal, readAnswer, partAnswer, supportAnswer, copyCases, copyAnswer, copyRings, writeCases, writeRefusal, writeAnswer, writeTo}
+use Rattle.rules.specs.Calls.{saysPlanned, saysJudged, saysRead, saysCopied, saysWritten, reachCases, settingCases, lengthCases, bothCases, stackCases, planCases, planRefusal, planAnswer, planSupport, planRings, judgeCases, judgeAnswer, sectionCases, readCases, readRefusal, readAnswer, partAnswer, supportAnswer, copyCases, copyAnswer, copyRings, writeCases, writeRefusal, writeAnswer, writeTo}
 use Rattle.rules.specs.Report.{digits, decimal, spaced, refusedLine, jobLine, filled, excusedAbove, layerLine, planLines, reportCases, reportOf}
 use Rattle.rules.specs.declared.Settings.{Settings}
 
@@ -35,7 +35,7 @@ pub plans-rows :
     ≡ ((0x00 ∷ 0x00 ∷ 0x00 ∷ 0x00 ∷ 0x00 ∷ 0x00 ∷ []) ∷ (0 ∷ 1 ∷ 2 ∷ 1 ∷ 1 ∷ 2 ∷ 2 ∷ 2 ∷ 2 ∷ []) ∷ [])
     ∷ ((0x1F ∷ 0x80 ∷ 0x00 ∷ 0x80 ∷ 0x00 ∷ 0x00 ∷ 0x00 ∷ 0x00 ∷ []) ∷ (0 ∷ 1 ∷ 2 ∷ 0 ∷ 0 ∷ 0 ∷ 0 ∷ 0 ∷ 0 ∷ 0 ∷ 0 ∷ 0 ∷ 0 ∷ 0 ∷ 0 ∷ 0 ∷ 0 ∷ 0 ∷ []) ∷ [])
     ∷ []
-unfolding bit some each joinedUp within sized rowBytes bitAt pixel rowsOf stackBytes paddingSet byteOf bytesOf ringsIn ringAt settable reachOf square boundOf apart distance² shadow near seeds reached touch source touching fits grow grown ringPlane rings excused supportUnder topOf planned empty plannedRings plannedBytes reachCases settingCases lengthCases planCases planRefusal planSupport planRings settings leaves
+unfolding bit some each joinedUp within sized rowBytes bitAt pixel rowsOf stackBytes paddingSet byteOf bytesOf ringsIn ringAt settable reachOf square boundOf apart distance² shadow near seeds reached touch source touching fits grow grown ringPlane rings excused supportUnder topOf planned empty plannedRings plannedBytes reachCases settingCases lengthCases planCases stackCases planRefusal planSupport planRings settings leaves
 plans-rows = refl
 
 -- near any part of the layer below, also where the upper layer has none; and a path of ten steps in a plane of three rows and six columns
@@ -46,7 +46,7 @@ pub plans-paths :
     ≡ ((0x00 ∷ 0x00 ∷ []) ∷ (0 ∷ 1 ∷ 2 ∷ 3 ∷ 4 ∷ 0 ∷ 0 ∷ 0 ∷ []) ∷ [])
     ∷ ((0x00 ∷ 0x00 ∷ 0x00 ∷ 0x00 ∷ 0x00 ∷ 0x00 ∷ []) ∷ (0 ∷ 1 ∷ 2 ∷ 3 ∷ 4 ∷ 5 ∷ 0 ∷ 0 ∷ 0 ∷ 0 ∷ 0 ∷ 5 ∷ 10 ∷ 9 ∷ 8 ∷ 7 ∷ 6 ∷ 6 ∷ []) ∷ [])
     ∷ []
-unfolding bit some each joinedUp within sized rowBytes bitAt pixel rowsOf stackBytes paddingSet byteOf bytesOf ringsIn ringAt settable reachOf square boundOf apart distance² shadow near seeds reached touch source touching fits grow grown ringPlane rings excused supportUnder topOf planned empty plannedRings plannedBytes reachCases settingCases lengthCases planCases planRefusal planSupport planRings settings leaves
+unfolding bit some each joinedUp within sized rowBytes bitAt pixel rowsOf stackBytes paddingSet byteOf bytesOf ringsIn ringAt settable reachOf square boundOf apart distance² shadow near seeds reached touch source touching fits grow grown ringPlane rings excused supportUnder topOf planned empty plannedRings plannedBytes reachCases settingCases lengthCases planCases stackCases planRefusal planSupport planRings settings leaves
 plans-paths = refl
 
 -- the bound on squared distances is the reach squared, for the lowest pair and the highest
@@ -99,7 +99,7 @@ pub plan-numbers :
     ∷ plan-says (settings 7 1 2 10 320) (2 ∷ 2 ∷ []) 2 7
     ∷ []
     ≡ (1 ∷ []) ∷ (2 ∷ []) ∷ (3 ∷ []) ∷ (4 ∷ []) ∷ (5 ∷ []) ∷ (6 ∷ []) ∷ (7 ∷ []) ∷ (0 ∷ []) ∷ []
-unfolding some within sized rowBytes rowsOf stackBytes paddingSet ringsIn settable reachOf reachCases settingCases lengthCases planCases planRefusal planAnswer settings plan-says
+unfolding some within sized rowBytes rowsOf stackBytes paddingSet ringsIn settable reachOf reachCases settingCases lengthCases planCases stackCases planRefusal planAnswer settings plan-says
 plan-numbers = refl
 
 -- Judging ----------------------------------------------------------------------------------------------------------------
@@ -123,12 +123,12 @@ pub judge-numbers :
     ∷ judge-says (settings 7 1 2 10 0) (2 ∷ 2 ∷ []) (4 ∷ 1 ∷ []) (each 0 7 (λ x. 0))
     ∷ []
     ≡ (4 ∷ []) ∷ (5 ∷ []) ∷ (6 ∷ []) ∷ (7 ∷ []) ∷ (8 ∷ []) ∷ (0 ∷ []) ∷ (11 ∷ 2 ∷ 1 ∷ 1 ∷ []) ∷ (10 ∷ 2 ∷ 1 ∷ 1 ∷ []) ∷ (9 ∷ 2 ∷ 1 ∷ 0 ∷ []) ∷ (11 ∷ 1 ∷ 0 ∷ 4 ∷ []) ∷ (7 ∷ []) ∷ (8 ∷ []) ∷ []
-unfolding some each first within sized rowBytes bitAt pixel rowsOf stackBytes paddingSet ringsIn ringAt settable reachOf square boundOf apart distance² shadow near seeds reached touch source touching fits overlap badRing unheld firstIn placeOf tell verdict verdictOf reachCases settingCases lengthCases judgeCases judgeAnswer settings judge-says
+unfolding some each first within sized rowBytes bitAt pixel rowsOf stackBytes paddingSet ringsIn ringAt settable reachOf square boundOf apart distance² shadow near seeds reached touch source touching fits overlap badRing unheld firstIn placeOf tell verdict verdictOf reachCases settingCases lengthCases judgeCases bothCases stackCases judgeAnswer settings judge-says
 judge-numbers = refl
 
 -- "A ring need not be the smallest to be accepted."
 pub larger-ring : judge-says (settings 1 4 2 100 100) (0x80 ∷ 0x00 ∷ 0x00 ∷ 0x80 ∷ 0x80 ∷ 0x80 ∷ 0x80 ∷ 0x80 ∷ []) (each 0 8 (λ x. 0)) (0 ∷ 1 ∷ 2 ∷ 0 ∷ []) ≡ 0 ∷ []
-unfolding some each first within sized rowBytes bitAt pixel rowsOf stackBytes paddingSet ringsIn ringAt settable reachOf square boundOf apart distance² shadow near seeds reached touch source touching fits overlap badRing unheld firstIn placeOf tell verdict verdictOf reachCases settingCases lengthCases judgeCases judgeAnswer settings judge-says
+unfolding some each first within sized rowBytes bitAt pixel rowsOf stackBytes paddingSet ringsIn ringAt settable reachOf square boundOf apart distance² shadow near seeds reached touch source touching fits overlap badRing unheld firstIn placeOf tell verdict verdictOf reachCases settingCases lengthCases judgeCases bothCases stackCases judgeAnswer settings judge-says
 larger-ring = refl
 
 -- Job files ----------------------------------------------------------------------------------------------------------------
@@ -148,7 +148,7 @@ jobB = record { settings = settings 8 1 2 100 200; part = 0xE0 ∷ 0xFF ∷ []; 
 -- the file and what its calls give: settings, support stored, the four offsets; part, support and rings
 pub file-told : fileOf jobB ∷ saysRead (readAnswer fileB) ∷ partAnswer fileB ∷ supportAnswer fileB ∷ copyRings fileB (each 0 8 (λ x. 9)) ∷ saysWritten (writeAnswer jobB 46) ∷ []
     ≡ fileB ∷ (0 ∷ 8 ∷ 1 ∷ 2 ∷ 100 ∷ 200 ∷ 1 ∷ 4 ∷ 18 ∷ 24 ∷ 30 ∷ []) ∷ (0xE0 ∷ 0xFF ∷ []) ∷ (0x07 ∷ 0x00 ∷ []) ∷ (0 ∷ 0 ∷ 0 ∷ 1 ∷ 2 ∷ 0 ∷ 0 ∷ 0 ∷ []) ∷ (0 ∷ 46 ∷ []) ∷ []
-unfolding some each within sized rowBytes rowsOf stackBytes paddingSet ringsIn settable reachOf headEnd partEnd supportCount supportEnd ringCount jobEnd settingsIn storedIn partIn supportIn ringsStored layoutOf storedRows fileOf fileLength reachCases settingCases sectionCases readCases readRefusal readAnswer partAnswer supportAnswer copyCases copyRings writeCases writeRefusal writeAnswer settings fileB jobB
+unfolding some each within sized rowBytes rowsOf stackBytes paddingSet ringsIn settable reachOf headEnd partEnd supportCount supportEnd ringCount jobEnd settingsIn storedIn partIn supportIn ringsStored layoutOf storedRows fileOf fileLength reachCases settingCases sectionCases readCases readRefusal readAnswer partAnswer supportAnswer copyCases copyRings writeCases bothCases stackCases lengthCases writeRefusal writeAnswer settings fileB jobB
 file-told = refl
 
 -- "All numbers are big-endian.": four bytes and two, each way, at an offset too
@@ -234,7 +234,7 @@ pub write-numbers :
     ∷ jobB
     ∷ [])
     ≡ (4 ∷ []) ∷ (5 ∷ []) ∷ (6 ∷ []) ∷ (6 ∷ []) ∷ (7 ∷ []) ∷ (8 ∷ []) ∷ (7 ∷ []) ∷ (8 ∷ []) ∷ (0 ∷ 44 ∷ []) ∷ (0 ∷ 28 ∷ []) ∷ (16 ∷ []) ∷ []
-unfolding some each within sized rowBytes rowsOf stackBytes paddingSet ringsIn settable reachOf headEnd partEnd supportEnd ringCount jobEnd storedRows fileLength reachCases settingCases writeCases writeRefusal writeAnswer settings jobB job7
+unfolding some each within sized rowBytes rowsOf stackBytes paddingSet ringsIn settable reachOf headEnd partEnd supportEnd ringCount jobEnd storedRows fileLength reachCases settingCases writeCases bothCases stackCases lengthCases writeRefusal writeAnswer settings jobB job7
 write-numbers = refl
 
 -- The report ---------------------------------------------------------------------------------------------------------------

@@ -2,20 +2,21 @@
 use mathlib.Core.Path.{_≡_, refl, sym, ap, _∙_}
 use mathlib.Core.Logic.{_↔_}
 use mathlib.Core.List.{List, [], _∷_, _++_}
-use mathlib.Core.Bool.{Bool, true, false, not, _||_, cond}
+use mathlib.Core.Bool.{Bool, true, false, not, cond}
 use Prim.Native.Nat.{ℕ, _+_, _-_, _*_, _≤_, _<_, zero-le}
 use native.Mathlib.Nat.{mul-le-mul, zero-mul, le-refl}
 use native.Mathlib.Omega.{arith}
 use lib.Dec.{ltb, eqb}
 use lib.ListN.{length, length-append}
-use borrow.Author.Tests.{eq-eqb, eqb-true, le-ltb, lt-ltb, ltb-false, not-false}
+use borrow.Author.Tests.{eq-eqb, ne-eqb, eqb-true, le-ltb, lt-ltb, ltb-false, not-false}
 use Rattle.rules.specs.Tools.{Case, _when_, refusal}
 use Rattle.rules.specs.Images.{rowBytes, rowsOf, stackBytes, ringsIn, paddingSet}
 use Rattle.rules.specs.Jobs.{Job, be32, headEnd, partEnd, supportCount, supportEnd, ringCount, jobEnd, settingsIn, storedIn, partIn, supportIn, storedRows, fileOf, fileLength}
-use Rattle.rules.specs.Calls.{reachCases, settingCases, sectionCases, readCases, readRefusal, copyCases, writeCases, writeRefusal}
+use Rattle.rules.specs.Calls.{reachCases, settingCases, sectionCases, readCases, readRefusal, copyCases, bothCases, writeCases, writeRefusal}
 use Rattle.rules.specs.declared.Settings.{Settings}
-use Rattle.laws.specs.Refusals.{numbered, orElse, else-both, refusal-append, case-out}
-use Rattle.laws.specs.Limits.{Ranged, ranged, stack-most, rings-most}
+use Rattle.laws.specs.Refusals.{numbered, orElse, else-both, refusal-append, case-out, settings-numbered, both-numbered, read-numbered}
+use Rattle.laws.specs.Limits.{Ranged, ranged, rows-least, stack-most, rings-most}
+use Rattle.laws.specs.StackTables.{Lengths, Both, both-exactly}
 use Rattle.laws.specs.Numbers.{length-put16s}
 
 -- A section: its count stands in the file, is allowed, and its contents stand in the file --------------------------------
@@ -44,16 +45,12 @@ module _ (f : List ℕ) (at : ℕ) (allowed : ℕ → Bool) (u : ℕ) where
   unfolding sectionCases numbered
   section-numbered = refl
 
-pub settings-numbered : (s : Settings) → numbered (settingCases s) ≡ true
-unfolding settingCases reachCases numbered
-settings-numbered s = refl
-
 -- Reading, part by part, for settings s and a count c of section 3 -----------------------------------------------------
 
 -- the padding of part and support
 unfoldable pub paddingRefusal : List ℕ → Settings → ℕ → ℕ
 paddingRefusal f s c =
-    refusal ((7 when paddingSet (s .w) (rowsOf s) (partIn f)) ∷ (8 when paddingSet (s .w) c (supportIn f)) ∷ [])
+    orElse (cond (paddingSet (s .w) (rowsOf s) (partIn f)) 7 0) (cond (paddingSet (s .w) c (supportIn f)) 8 0)
 
 -- from section 4 on
 unfoldable pub ringsRefusal : List ℕ → Settings → ℕ → ℕ
@@ -73,8 +70,9 @@ read-parts f =
     let s : Settings = settingsIn f in
     let c : ℕ = storedIn f in
     let x : List Case = (14 when ltb (jobEnd s c) (length f)) ∷ [] in
-    let y : List Case = (7 when paddingSet (s .w) (rowsOf s) (partIn f)) ∷ (8 when paddingSet (s .w) c (supportIn f)) ∷ [] in
-    let l : List Case = x ++ y in
+    let y : List Case = (7 when paddingSet (s .w) (rowsOf s) (partIn f)) ∷ [] in
+    let z : List Case = (8 when paddingSet (s .w) c (supportIn f)) ∷ [] in
+    let l : List Case = x ++ (y ++ z) in
     let a : List Case = sectionCases f 0 (eqb 5) 2 in
     let b : List Case = settingCases s in
     let g : List Case = sectionCases f headEnd (eqb (rowsOf s)) (rowBytes (s .w)) in
@@ -89,7 +87,7 @@ read-parts f =
     (refusal-append h (i ++ l) (section-numbered f (partEnd s) (supportCount s) (rowBytes (s .w)))
     ∙ ap (orElse (refusal h))
     (refusal-append i l (section-numbered f (supportEnd s c) (eqb (ringCount s c)) 2)
-    ∙ ap (orElse (refusal i)) (refusal-append x y refl)))))
+    ∙ ap (orElse (refusal i)) (refusal-append x (y ++ z) refl ∙ ap (orElse (refusal x)) (refusal-append y z refl))))))
 
 -- A file that is accepted -----------------------------------------------------------------------------------------------------
 
@@ -118,7 +116,7 @@ accepted-out f e =
     let p5 = else-both (cond x 14 0) (paddingRefusal f s c) (p4 .1) in
     let y : Bool = paddingSet (s .w) (rowsOf s) (partIn f) in
     let z : Bool = paddingSet (s .w) c (supportIn f) in
-    let p6 = case-out y 6 (cond z 8 0) (p5 .1) in
+    let p6 = else-both (cond y 7 0) (cond z 8 0) (p5 .1) in
     let one = section-out f 0 (eqb 5) 2 (p0 .0) in
     let two = section-out f headEnd (eqb (rowsOf s)) (rowBytes (s .w)) (p2 .0) in
     let three = section-out f (partEnd s) (supportCount s) (rowBytes (s .w)) (p3 .0) in
@@ -133,7 +131,7 @@ accepted-out f e =
       support-count = three .right;
       ring-count = rc;
       ends = omega arith;
-      part-clear = p6 .0;
+      part-clear = case-out y 6 0 (p6 .0) .0;
       support-clear = case-out z 7 0 (p6 .1) .0;
     }
 
@@ -188,10 +186,6 @@ accepted-exactly f = (accepted-out f, accepted-in f)
 
 -- Copying rings tests 6 after everything that reading tests -------------------------------------------------------------
 
-read-numbered : (f : List ℕ) → numbered (readCases f) ≡ true
-unfolding readCases sectionCases settingCases reachCases numbered
-read-numbered f = refl
-
 pub copy-parts : (f : List ℕ) (room : ℕ) → refusal (copyCases f room) ≡ orElse (readRefusal f) (cond (not (eqb room (ringCount (settingsIn f) (storedIn f)))) 6 0)
 unfolding copyCases readRefusal
 copy-parts f room = refusal-append (readCases f) _ (read-numbered f)
@@ -213,22 +207,31 @@ pub record Writable (j : Job) : Type 0 where
   pub part-clear : paddingSet (j .settings .w) (rowsOf (j .settings)) (j .part) ≡ false
   pub support-clear : paddingSet (j .settings .w) (rowsStored j) (j .support) ≡ false
 
--- "neither 0 nor full": the support's length is that of the rows stored
-pub stored-out : (s : Settings) (k : ℕ) → (eqb k 0 || eqb k (stackBytes s)) ≡ true → k ≡ storedRows s k * rowBytes (s .w)
-unfolding storedRows stackBytes
-stored-out s k e = go (eqb k 0) refl e
-  where
-    go : (b : Bool) → eqb k 0 ≡ b → (b || eqb k (rowsOf s * rowBytes (s .w))) ≡ true → k ≡ cond b 0 (rowsOf s) * rowBytes (s .w)
-    go true h q = eqb-true _ _ h ∙ sym (zero-mul (rowBytes (s .w)))
-    go false h q = eqb-true _ _ q
+-- support and rings as the tables ask for them are those of the rows stored
+module _ (s : Settings) (k : ℕ) where
+  pub stored-rows : cond (not (eqb k 0)) (rowsOf s) 0 ≡ storedRows s k
+  unfolding storedRows
+  stored-rows = go (eqb k 0)
+    where
+      go : (b : Bool) → cond (not b) (rowsOf s) 0 ≡ cond b 0 (rowsOf s)
+      go true = refl
+      go false = refl
 
-pub stored-in : (s : Settings) (k : ℕ) → k ≡ storedRows s k * rowBytes (s .w) → (eqb k 0 || eqb k (stackBytes s)) ≡ true
-unfolding storedRows stackBytes
-stored-in s k e = go (eqb k 0) e
-  where
-    go : (b : Bool) → k ≡ cond b 0 (rowsOf s) * rowBytes (s .w) → (b || eqb k (rowsOf s * rowBytes (s .w))) ≡ true
-    go true q = refl
-    go false q = eq-eqb _ _ q
+  pub stored-bytes : cond (not (eqb k 0)) (stackBytes s) 0 ≡ storedRows s k * rowBytes (s .w)
+  unfolding storedRows stackBytes
+  stored-bytes = go (eqb k 0)
+    where
+      go : (b : Bool) → cond (not b) (rowsOf s * rowBytes (s .w)) 0 ≡ cond b 0 (rowsOf s) * rowBytes (s .w)
+      go true = sym (zero-mul (rowBytes (s .w)))
+      go false = refl
+
+  pub stored-rings : Ranged s → cond (not (eqb k 0)) (ringsIn s) 0 ≡ ringCount s (storedRows s k)
+  unfolding storedRows ringCount
+  stored-rings r = go (eqb k 0)
+    where
+      go : (b : Bool) → cond (not b) (ringsIn s) 0 ≡ cond (eqb (cond b 0 (rowsOf s)) 0) 0 (ringsIn s)
+      go true = refl
+      go false = rw (ne-eqb (rowsOf s) 0 (λ e. omega (arith, rows-least s r)))
 
 pub stored-most : (s : Settings) (k : ℕ) → storedRows s k ≤ rowsOf s
 unfolding storedRows
@@ -260,100 +263,71 @@ pub length-file : (j : Job) → Writable j → length (fileOf j) ≡ fileLength 
 unfolding fileOf fileLength jobEnd supportEnd partEnd headEnd
 length-file j v = simp (length-append, length-put16s) (omega (arith, v .part, v .support, ap (λ (k : ℕ). k * 2) (v .rings)))
 
--- Writing, part by part --------------------------------------------------------------------------------------------------
-
--- the lengths of part, support and rings
-unfoldable pub writeLengths : Settings → ℕ → ℕ → ℕ → List Case
-writeLengths s part support rings =
-    (4 when not (eqb part (stackBytes s)))
-    ∷ (5 when not (eqb support 0 || eqb support (stackBytes s)))
-    ∷ (6 when not (eqb rings (ringCount s (storedRows s support))))
-    ∷ []
-
--- the padding of part and support
-unfoldable pub writePadding : Settings → List ℕ → List ℕ → List Case
-writePadding s part support =
-    (7 when paddingSet (s .w) (rowsOf s) part) ∷ (8 when paddingSet (s .w) (storedRows s (length support)) support) ∷ []
+-- Writing: 1 to 8 with support or without, and then the room --------------------------------------------------------------
 
 -- the job's length, and the room for it
 unfoldable pub writeRoom : ℕ → ℕ → List Case
 writeRoom k room = (15 when ltb 4294967295 k) ∷ (16 when ltb room k) ∷ []
 
-abbrev pub lengthRefusal : Job → ℕ
-lengthRefusal j = refusal (writeLengths (j .settings) (length (j .part)) (length (j .support)) (length (j .rings)))
+-- whether the job has support
+abbrev pub stores : Job → Bool
+stores j = not (eqb (length (j .support)) 0)
 
-pub write-parts : (j : Job) (room : ℕ) →
-    writeRefusal j room
-    ≡ orElse (refusal (settingCases (j .settings)))
-    (orElse (lengthRefusal j) (orElse (refusal (writePadding (j .settings) (j .part) (j .support))) (refusal (writeRoom (fileLength j) room))))
-unfolding writeRefusal writeCases writeLengths writePadding writeRoom numbered
-write-parts j room =
+abbrev pub jobCases : Job → List Case
+jobCases j = bothCases (j .settings) (stores j) (j .part) (j .support) (length (j .rings))
+
+-- what no number of these refuses is a job that can be written
+abbrev InOrder : Job → Type 0
+InOrder j = Both (j .settings) (stores j) (j .part) (j .support) (length (j .rings))
+
+pub in-order : (j : Job) → InOrder j → Writable j
+in-order j v =
     let s : Settings = j .settings in
-    let a : List Case = writeLengths s (length (j .part)) (length (j .support)) (length (j .rings)) in
-    let b : List Case = writePadding s (j .part) (j .support) in
-    let c : List Case = writeRoom (fileLength j) room in
-    refusal-append (settingCases s) (a ++ (b ++ c)) (settings-numbered s)
-    ∙ ap (orElse (refusal (settingCases s))) (refusal-append a (b ++ c) refl ∙ ap (orElse (refusal a)) (refusal-append b c refl))
-
--- lengths that are right
-pub record Fits (s : Settings) (a b c : ℕ) : Type 0 where
-  pub part : a ≡ stackBytes s
-  pub support : b ≡ storedRows s b * rowBytes (s .w)
-  pub rings : c ≡ ringCount s (storedRows s b)
-
-pub lengths-out : (s : Settings) (a b c : ℕ) → refusal (writeLengths s a b c) ≡ 0 → Fits s a b c
-unfolding writeLengths
-lengths-out s a b c e =
-    let b5 : Bool = not (eqb b 0 || eqb b (stackBytes s)) in
-    let b6 : Bool = not (eqb c (ringCount s (storedRows s b))) in
-    let p4 = case-out (not (eqb a (stackBytes s))) 3 (cond b5 5 (cond b6 6 0)) e in
-    let p5 = case-out b5 4 (cond b6 6 0) (p4 .1) in
+    let k : ℕ = length (j .support) in
+    let l = v .stack .lengths in
     record {
-      part = eqb-true _ _ (not-false _ (p4 .0));
-      support = stored-out s b (not-false _ (p5 .0));
-      rings = eqb-true _ _ (not-false _ (case-out b6 5 0 (p5 .1) .0));
+      settings = v .stack .settings;
+      part = l .part-long;
+      support = l .support-long ∙ stored-bytes s k;
+      rings = l .ring-count ∙ stored-rings s k (ranged s (v .stack .settings));
+      part-clear = v .stack .part-clear;
+      support-clear = rw (← stored-rows s k) (v .support-clear);
     }
 
--- every test passed but that of the room
-pub writable-in : (j : Job) → refusal (settingCases (j .settings)) ≡ 0 → lengthRefusal j ≡ 0 → refusal (writePadding (j .settings) (j .part) (j .support)) ≡ 0 → Writable j
-unfolding writePadding
-writable-in j e l p =
+order-of : (j : Job) → Writable j → InOrder j
+order-of j v =
     let s : Settings = j .settings in
-    let f = lengths-out s (length (j .part)) (length (j .support)) (length (j .rings)) l in
-    let b8 : Bool = paddingSet (s .w) (rowsStored j) (j .support) in
-    let p7 = case-out (paddingSet (s .w) (rowsOf s) (j .part)) 6 (cond b8 8 0) p in
+    let k : ℕ = length (j .support) in
+    let l : Lengths s (stores j) (length (j .part)) k (length (j .rings)) = record {
+      part-long = v .part;
+      support-long = v .support ∙ sym (stored-bytes s k);
+      ring-count = v .rings ∙ sym (stored-rings s k (ranged s (v .settings)));
+    } in
     record {
-      settings = e;
-      part = f .part;
-      support = f .support;
-      rings = f .rings;
-      part-clear = p7 .0;
-      support-clear = case-out b8 7 0 (p7 .1) .0;
+      stack = record { settings = v .settings; lengths = l; part-clear = v .part-clear };
+      support-clear = rw (stored-rows s k) (v .support-clear);
     }
+
+pub write-parts : (j : Job) (room : ℕ) → writeRefusal j room ≡ orElse (refusal (jobCases j)) (refusal (writeRoom (fileLength j) room))
+unfolding writeRefusal writeCases writeRoom
+write-parts j room = refusal-append (jobCases j) (writeRoom (fileLength j) room) (both-numbered (j .settings) (stores j) (j .part) (j .support) (length (j .rings)))
 
 writable-out : (j : Job) (room : ℕ) → writeRefusal j room ≡ 0 → Writable j × (fileLength j ≤ room)
 unfolding writeRoom
 writable-out j room e =
-    let s : Settings = j .settings in
-    let d : ℕ = refusal (writePadding s (j .part) (j .support)) in
-    let r : ℕ = refusal (writeRoom (fileLength j) room) in
-    let p = else-both (refusal (settingCases s)) (orElse (lengthRefusal j) (orElse d r)) (sym (write-parts j room) ∙ e) in
-    let q = else-both (lengthRefusal j) (orElse d r) (p .1) in
-    let t = else-both d r (q .1) in
+    let (a, b) = else-both (refusal (jobCases j)) (refusal (writeRoom (fileLength j) room)) (sym (write-parts j room) ∙ e) in
     let b16 : Bool = ltb room (fileLength j) in
-    let u = case-out (ltb 4294967295 (fileLength j)) 14 (cond b16 16 0) (t .1) in
-    (writable-in j (p .0) (q .0) (t .0), ltb-false _ _ (case-out b16 15 0 (u .1) .0))
+    let u = case-out (ltb 4294967295 (fileLength j)) 14 (cond b16 16 0) b in
+    (in-order j (both-exactly (j .settings) (stores j) (j .part) (j .support) (length (j .rings)) .0 a), ltb-false _ _ (case-out b16 15 0 (u .1) .0))
 
 -- for a job in order the room alone decides
 module _ (j : Job) (room : ℕ) (v : Writable j) where
   by-room : writeRefusal j room ≡ cond (ltb room (fileLength j)) 16 0
-  unfolding writeRefusal writeCases
+  unfolding writeRoom
   by-room =
-      let s : Settings = j .settings in
-      let k : ℕ = length (j .support) in
       let never : fileLength j ≤ 4294967295 = omega (arith, longest-job j v) in
-      refusal-append (settingCases s) _ (settings-numbered s)
-      ∙ simp (v .settings, eq-eqb _ _ (v .part), stored-in s k (v .support), eq-eqb _ _ (v .rings), v .part-clear, v .support-clear, le-ltb _ _ never)
+      write-parts j room
+      ∙ rw (both-exactly (j .settings) (stores j) (j .part) (j .support) (length (j .rings)) .1 (order-of j v), le-ltb _ _ never)
 
   pub write-fits : fileLength j ≤ room → writeRefusal j room ≡ 0
   write-fits h = by-room ∙ rw (le-ltb _ _ h)

@@ -11,7 +11,7 @@ use Rattle.rules.specs.Tools.{Case, refusal, answer, Found, nothing, found}
 use Rattle.rules.specs.Images.{Stack, pixel, ringAt}
 use Rattle.rules.specs.Reach.{boundOf}
 use Rattle.rules.specs.Judging.{overlap, badRing, unheld, firstIn, placeOf, tell, verdict, verdictOf}
-use Rattle.rules.specs.Calls.{saysJudged, reachCases, settingCases, lengthCases, judgeCases, judgeAnswer}
+use Rattle.rules.specs.Calls.{saysJudged, reachCases, settingCases, lengthCases, bothCases, stackCases, judgeCases, judgeAnswer}
 use Rattle.rules.specs.Demands.{Given, NoneGiven, FirstAt}
 use Rattle.rules.specs.declared.Settings.{Settings}
 use Rattle.rules.specs.declared.Place.{Place}
@@ -47,7 +47,7 @@ no-number k (ring-is-bad at) e = let z : _≡_ {A = ℕ} 4 1 = ap length e in om
 no-number k (hanging at) e = let z : _≡_ {A = ℕ} 4 1 = ap length e in omega arith
 
 judge-numbered : (s : Settings) (part sup : List ℕ) (k : ℕ) → numbered (judgeCases s part sup k) ≡ true
-unfolding judgeCases settingCases reachCases lengthCases numbered
+unfolding judgeCases bothCases stackCases settingCases reachCases lengthCases numbered
 judge-numbered s part sup k = refl
 
 -- what an answer says is what it is

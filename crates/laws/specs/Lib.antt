@@ -17,6 +17,7 @@ pub mod Soundness
 pub mod ReportLaws
 pub mod Tests
 pub mod Limits
+pub mod StackTables
 pub mod Discs
 pub mod Growing
 pub mod Waves

@@ -8,7 +8,7 @@ use lib.Dec.{leb, ltb}
 use borrow.Author.Tests.{leb-true, ltb-false, not-false}
 use Rattle.rules.specs.Tools.{refusal}
 use Rattle.rules.specs.Images.{within, sized, rowBytes, rowsOf, stackBytes, ringsIn}
-use Rattle.rules.specs.Reach.{settable, reachOf}
+use Rattle.rules.specs.Reach.{settable, reachOf, mostReach, square, boundOf, mostBound}
 use Rattle.rules.specs.Calls.{reachCases, settingCases}
 use Rattle.rules.specs.declared.Micrometres.{Micrometres}
 use Rattle.rules.specs.declared.Settings.{Settings}
@@ -24,13 +24,13 @@ pub record Settable (p t : Micrometres) : Type 0 where
   pub pitch-low : 10 ≤ p .0
   pub pitch-high : p .0 ≤ 1000
   pub overhang-high : t .0 ≤ 10000
-  pub reach-high : reachOf p t .0 ≤ 32
+  pub reach-high : reachOf p t .0 ≤ mostReach
 
 pub settable-out : (p t : Micrometres) → refusal (reachCases p t) ≡ 0 → Settable p t
 unfolding reachCases settable
 settable-out p t e =
     let (a, e₁) = case-out (not (settable p t)) 1 _ e in
-    let (b, e₂) = case-out (ltb 32 (reachOf p t .0)) 2 _ e₁ in
+    let (b, e₂) = case-out (ltb mostReach (reachOf p t .0)) 2 _ e₁ in
     let s : (within 10 1000 (p .0) && leb (t .0) 10000) ≡ true = not-false _ a in
     let (x, y) = within-out 10 1000 (p .0) (and-l _ (leb (t .0) 10000) s) in
     record {
@@ -51,7 +51,7 @@ pub record Ranged (s : Settings) : Type 0 where
   pub pitch-low : 10 ≤ s .pitch .0
   pub pitch-high : s .pitch .0 ≤ 1000
   pub overhang-high : s .overhang .0 ≤ 10000
-  pub reach-high : reachOf (s .pitch) (s .overhang) .0 ≤ 32
+  pub reach-high : reachOf (s .pitch) (s .overhang) .0 ≤ mostReach
 
 pub ranged : (s : Settings) → refusal (settingCases s) ≡ 0 → Ranged s
 unfolding settingCases sized
@@ -83,6 +83,10 @@ pub rows-most : (s : Settings) → Ranged s → rowsOf s ≤ 131072
 unfolding rowsOf
 rows-most s r = mul-le-mul (r .n-high) (r .h-high)
 
+pub rows-least : (s : Settings) → Ranged s → 1 ≤ rowsOf s
+unfolding rowsOf
+rows-least s r = mul-le-mul (r .n-low) (r .h-low)
+
 pub row-bytes-most : (w : ℕ) → w ≤ 256 → rowBytes w ≤ 32
 unfolding rowBytes
 row-bytes-most w h = omega arith
@@ -101,3 +105,8 @@ rings-most s r =
     let n = r .n-high in
     let k : s .n - 1 ≤ 511 = omega arith in
     mul-le-mul k (area-most (s .w) (s .h) (r .w-high) (r .h-high))
+
+-- the bound of settings that are not refused
+pub bound-most : (s : Settings) (i : ℕ) → Ranged s → boundOf s i ≤ mostBound
+unfolding boundOf square
+bound-most s i r = mul-le-mul (r .reach-high) (r .reach-high)

@@ -11,7 +11,7 @@ use lib.ListN.{length}
 use borrow.Author.Tests.{leb-true}
 use Rattle.rules.specs.Tools.{Case}
 use Rattle.rules.specs.Jobs.{Job}
-use Rattle.rules.specs.Calls.{saysReached, saysPlanned, saysJudged, saysWritten, reachCases, reachAnswer, settingCases, lengthCases, planCases, planAnswer, judgeCases, judgeAnswer, writeCases, writeAnswer}
+use Rattle.rules.specs.Calls.{saysReached, saysPlanned, saysJudged, saysWritten, reachCases, reachAnswer, settingCases, lengthCases, bothCases, stackCases, planCases, planAnswer, judgeCases, judgeAnswer, writeCases, writeAnswer}
 use Rattle.rules.specs.Demands.{Given, here, later, Applies, this, further}
 use Rattle.rules.specs.declared.Micrometres.{Micrometres}
 use Rattle.rules.specs.declared.Settings.{Settings}
@@ -73,13 +73,13 @@ unfolding reachCases rising floor
 reach-lowest p t k j e a = lowest (reachCases p t) (suc k) j refl (reach-refuses p t k .0 e) a
 
 pub plan-lowest : (s : Settings) (part : List ℕ) (x y k j : ℕ) → saysPlanned (planAnswer s part x y) ≡ suc k ∷ [] → Applies j (planCases s part x y) → suc k ≤ j
-unfolding planCases settingCases reachCases lengthCases rising floor
+unfolding planCases stackCases settingCases reachCases lengthCases rising floor
 plan-lowest s part x y k j e a = lowest (planCases s part x y) (suc k) j refl (plan-refuses s part x y k .0 e) a
 
 pub judge-lowest : (s : Settings) (part sup l : List ℕ) (k j : ℕ) → saysJudged (judgeAnswer s part sup l) ≡ suc k ∷ [] → Applies j (judgeCases s part sup (length l)) → suc k ≤ j
-unfolding judgeCases settingCases reachCases lengthCases rising floor
+unfolding judgeCases bothCases stackCases settingCases reachCases lengthCases rising floor
 judge-lowest s part sup l k j e a = lowest (judgeCases s part sup (length l)) (suc k) j refl (judge-refuses s part sup l k .0 e) a
 
 pub write-lowest : (j : Job) (room k i : ℕ) → saysWritten (writeAnswer j room) ≡ suc k ∷ [] → Applies i (writeCases j room) → suc k ≤ i
-unfolding writeCases settingCases reachCases rising floor
+unfolding writeCases bothCases stackCases lengthCases settingCases reachCases rising floor
 write-lowest j room k i e a = lowest (writeCases j room) (suc k) i refl (write-refuses j room k .0 e) a

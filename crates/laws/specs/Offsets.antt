@@ -13,13 +13,14 @@ use borrow.Author.Tests.{eqb-true, ltb-true, not-false}
 use Rattle.rules.specs.Tools.{_when_, refusal, answer}
 use Rattle.rules.specs.Images.{rowBytes, rowsOf, stackBytes}
 use Rattle.rules.specs.Jobs.{Job, be32, get16s, headEnd, partEnd, supportCount, supportEnd, ringCount, jobEnd, settingsIn, storedIn, partIn, supportIn, ringsStored, layoutOf, jobIn, fileLength}
-use Rattle.rules.specs.Calls.{saysCopied, readRefusal, partAnswer, supportAnswer, copyCases, copyAnswer, copyRings, reachCases, settingCases, writeCases, writeRefusal}
+use Rattle.rules.specs.Calls.{saysCopied, readRefusal, partAnswer, supportAnswer, copyCases, copyAnswer, copyRings, reachCases, settingCases, lengthCases, bothCases, stackCases, writeCases, writeRefusal}
 use Rattle.rules.specs.Demands.{Given, here, later}
 use Rattle.rules.specs.declared.Settings.{Settings}
 use Rattle.rules.specs.declared.CopiedRings.the-variants.{Copied, Refused}
 use Rattle.laws.specs.Refusals.{given-exactly, else-both, case-out, answer-fine, answer-refused}
 use Rattle.laws.specs.Numbers.{length-get16s}
-use Rattle.laws.specs.JobFiles.{Accepted, accepted-exactly, rooms, copy-parts, copy-fits, Writable, stored-out, writable-exactly, longest-job}
+use Rattle.laws.specs.StackTables.{Lengths}
+use Rattle.laws.specs.JobFiles.{Accepted, accepted-exactly, rooms, copy-parts, copy-fits, stores, in-order, writable-exactly, longest-job}
 use Rattle.laws.specs.RoundTrips.{part-length, support-length, accepted-writable, same-length}
 
 module _ (f : List ℕ) (e : readRefusal f ≡ 0) where
@@ -143,17 +144,12 @@ longest-file f e =
 
 -- 15 is never given: a job that no earlier test refuses is not so long
 pub never-15 : (j : Job) (room : ℕ) → Given 15 (writeCases j room) → ⊥
-unfolding writeCases settingCases reachCases
+unfolding writeCases bothCases stackCases lengthCases settingCases reachCases
 never-15 j room (later n1 (later n2 (later n3 (later n4 (later n5 (later n6 (later n7 (later n8 (here n15))))))))) =
     let s : Settings = j .settings in
-    let v : Writable j = record {
-      settings = rw (n1, n2, n3);
-      part = eqb-true _ _ (not-false _ n4);
-      support = stored-out s (length (j .support)) (not-false _ n5);
-      rings = eqb-true _ _ (not-false _ n6);
-      part-clear = n7;
-      support-clear = n8;
-    } in
+    let l : Lengths s (stores j) (length (j .part)) (length (j .support)) (length (j .rings)) =
+    record { part-long = eqb-true _ _ (not-false _ n4); support-long = eqb-true _ _ (not-false _ n5); ring-count = eqb-true _ _ (not-false _ n6) } in
+    let v = in-order j (record { stack = record { settings = rw (n1, n2, n3); lengths = l; part-clear = n7 }; support-clear = n8 }) in
     omega (arith, ltb-true 4294967295 (fileLength j) n15, longest-job j v)
 never-15 j room (later n1 (later n2 (later n3 (later n4 (later n5 (later n6 (later n7 (later n8 (later n15 g))))))))) =
     only-16 (ltb room (fileLength j)) (given-exactly ((16 when ltb room (fileLength j)) ∷ []) 14 .1 g)

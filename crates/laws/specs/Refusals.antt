@@ -1,16 +1,18 @@
 -- Demand 1: the first refusal of a table, taken apart and put together; and the table of each call.
-use mathlib.Core.Path.{_≡_, refl, sym, subst}
+use mathlib.Core.Path.{_≡_, refl, sym, ap, subst, _∙_}
 use mathlib.Core.Logic.{_⊎_, inl, inr, _↔_}
 use mathlib.Core.Bool.{Bool, true, false, not, _&&_, cond}
 use mathlib.Core.List.{List, [], _∷_, _++_, map}
 use Prim.Native.Nat.{ℕ, zero, suc, _≤_}
 use native.Mathlib.Omega.{arith}
 use lib.Dec.{leb, eqb}
+use lib.ListN.{length}
 use borrow.Author.Tests.{leb-true}
 use Rattle.rules.specs.Tools.{Case, _when_, refusal, answer}
+use Rattle.rules.specs.Images.{rowsOf, paddingSet}
 use Rattle.rules.specs.Demands.{Given, here, later, NoneGiven, end, next}
 use Rattle.rules.specs.Jobs.{Job}
-use Rattle.rules.specs.Calls.{reachCases, settingCases, lengthCases, planCases, judgeCases, sectionCases, readCases, copyCases, writeCases}
+use Rattle.rules.specs.Calls.{reachCases, settingCases, lengthCases, bothCases, stackCases, planCases, judgeCases, sectionCases, readCases, copyCases, writeCases}
 use Rattle.rules.specs.Report.{reportCases}
 use Rattle.rules.specs.declared.Micrometres.{Micrometres}
 use Rattle.rules.specs.declared.Settings.{Settings}
@@ -94,6 +96,24 @@ refusal-append (c ∷ a) b n =
     (λ t. rw t (sym (else-some (c .number) (refusal b) (λ z. head-number (c .number) (numbered a) n z))))
     (λ t. rw t (refusal-append a b (and-r (not (eqb (c .number) 0)) _ n)))
 
+-- a call that tests one thing after another: where it stops, and where it goes on
+pub stops : {r a : ℕ} (b : ℕ) → r ≡ a → (r ≡ 0 → ⊥) → r ≡ orElse a b
+stops {r} {a} b e n = e ∙ sym (else-some a b (λ z. n (e ∙ z)))
+
+pub goes-on : {r a b x : ℕ} → r ≡ a → r ≡ 0 → x ≡ b → x ≡ orElse a b
+goes-on {r} {a} {b} e z h = h ∙ sym (else-none a b (sym e ∙ z))
+
+-- the same of a table with its own numbers behind another's
+module _ (a b : List Case) (n : numbered a ≡ true) where
+  pub stops-before : {r : ℕ} → r ≡ refusal a → (r ≡ 0 → ⊥) → r ≡ refusal (a ++ b)
+  stops-before e ne = stops (refusal b) e ne ∙ sym (refusal-append a b n)
+
+  pub goes-behind : {r x : ℕ} → r ≡ refusal a → r ≡ 0 → x ≡ refusal b → x ≡ refusal (a ++ b)
+  goes-behind e z h = goes-on e z h ∙ sym (refusal-append a b n)
+
+  pub none-both : refusal (a ++ b) ≡ 0 → (refusal a ≡ 0) × (refusal b ≡ 0)
+  none-both e = else-both (refusal a) (refusal b) (sym (refusal-append a b n) ∙ e)
+
 -- one case before others, taken apart
 pub case-out : (b : Bool) (k x : ℕ) → cond b (suc k) x ≡ 0 → (b ≡ false) × (x ≡ 0)
 case-out true k x e = absurd (omega arith)
@@ -121,6 +141,31 @@ pub answer-refused : {A : Type 0} (r : ℕ) (fine : A) (refused : ℕ → A) →
 answer-refused zero fine refused n = absurd (n refl)
 answer-refused (suc r) fine refused n = refl
 
+-- a table carried to its call: r is the number that the call's test found, k that of its table
+pub says-no : {A : Type 0} (fine : A) (refused : ℕ → A) {r k : ℕ} → r ≡ k → (r ≡ 0 → ⊥) → refused r ≡ answer k fine refused
+says-no fine refused {r} {k} e n = ap refused e ∙ sym (answer-refused k fine refused (λ z. n (e ∙ z)))
+
+pub says-yes : {A : Type 0} (fine : A) (refused : ℕ → A) {r k : ℕ} {x : A} → r ≡ k → r ≡ 0 → x ≡ fine → x ≡ answer k fine refused
+says-yes fine refused {r} {k} e z h = h ∙ sym (answer-fine k fine refused (sym e ∙ z))
+
+-- No number of a table is 0 --------------------------------------------------------------------------------------------
+
+pub settings-numbered : (s : Settings) → numbered (settingCases s) ≡ true
+unfolding settingCases reachCases numbered
+settings-numbered s = refl
+
+pub stack-numbered : (s : Settings) (stored : Bool) (part : List ℕ) (a b : ℕ) → numbered (stackCases s stored part a b) ≡ true
+unfolding stackCases lengthCases settingCases reachCases numbered
+stack-numbered s stored part a b = refl
+
+pub both-numbered : (s : Settings) (stored : Bool) (part support : List ℕ) (k : ℕ) → numbered (bothCases s stored part support k) ≡ true
+unfolding bothCases stackCases lengthCases settingCases reachCases numbered
+both-numbered s stored part support k = refl
+
+pub read-numbered : (f : List ℕ) → numbered (readCases f) ≡ true
+unfolding readCases sectionCases settingCases reachCases numbered
+read-numbered f = refl
+
 -- The table of each call: its numbers in their order ------------------------------------------------------------------
 
 abbrev pub numbers : List Case → List ℕ
@@ -131,12 +176,17 @@ unfolding reachCases
 reach-table p t = refl
 
 pub plan-table : (s : Settings) (part : List ℕ) (a b : ℕ) → numbers (planCases s part a b) ≡ 1 ∷ 2 ∷ 3 ∷ 4 ∷ 5 ∷ 6 ∷ 7 ∷ []
-unfolding planCases settingCases reachCases lengthCases
+unfolding planCases stackCases settingCases reachCases lengthCases
 plan-table s part a b = refl
 
 pub judge-table : (s : Settings) (part support : List ℕ) (a : ℕ) → numbers (judgeCases s part support a) ≡ 1 ∷ 2 ∷ 3 ∷ 4 ∷ 5 ∷ 6 ∷ 7 ∷ 8 ∷ []
-unfolding judgeCases settingCases reachCases lengthCases
+unfolding judgeCases bothCases stackCases settingCases reachCases lengthCases
 judge-table s part support a = refl
+
+-- checking refuses what planning refuses, and then 8
+pub judge-behind-plan : (s : Settings) (part support : List ℕ) (a : ℕ) → judgeCases s part support a ≡ planCases s part (length support) a ++ (8 when paddingSet (s .w) (rowsOf s) support) ∷ []
+unfolding judgeCases planCases bothCases
+judge-behind-plan s part support a = refl
 
 -- four sections of 12, 13, 12; 1, 2, 3 after the first; then 14, 7, 8
 pub read-table : (f : List ℕ) → numbers (readCases f) ≡ 12 ∷ 13 ∷ 12 ∷ 1 ∷ 2 ∷ 3 ∷ 12 ∷ 13 ∷ 12 ∷ 12 ∷ 13 ∷ 12 ∷ 12 ∷ 13 ∷ 12 ∷ 14 ∷ 7 ∷ 8 ∷ []
@@ -148,7 +198,7 @@ unfolding copyCases readCases sectionCases settingCases reachCases
 copy-table f room = refl
 
 pub write-table : (j : Job) (room : ℕ) → numbers (writeCases j room) ≡ 1 ∷ 2 ∷ 3 ∷ 4 ∷ 5 ∷ 6 ∷ 7 ∷ 8 ∷ 15 ∷ 16 ∷ []
-unfolding writeCases settingCases reachCases
+unfolding writeCases bothCases stackCases lengthCases settingCases reachCases
 write-table j room = refl
 
 pub report-table : (f : List ℕ) → numbers (reportCases f) ≡ 17 ∷ numbers (readCases f) ++ 17 ∷ []

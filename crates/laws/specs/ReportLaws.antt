@@ -18,7 +18,7 @@ use Rattle.rules.specs.Report.{digits, decimal, spaced, newline, refusedLine, j
 use Rattle.rules.specs.Demands.{Given}
 use Rattle.rules.specs.declared.Settings.{Settings}
 use Rattle.laws.specs.Tests.{split}
-use Rattle.laws.specs.Refusals.{numbered, refusal-append, else-both, case-out, given-exactly}
+use Rattle.laws.specs.Refusals.{refusal-append, else-both, case-out, given-exactly, read-numbered}
 
 -- "Input (28 bytes, hexadecimal) .. Whole output": `job 8 1 2 reach 2`, `1 8 0 0`, `0 3 3 2`
 pub report-example :
@@ -86,10 +86,6 @@ pub decimal-length : (x : ℕ) → x < 100000 → length (decimal x) ≤ 5
 decimal-length x h =
     longer x 4 (λ a. longer (x / 10) 3 (λ b. longer (x / 10 / 10) 2 (λ c. longer (x / 10 / 10 / 10) 1 (λ d.
     longer (x / 10 / 10 / 10 / 10) 0 (λ e. absurd (omega arith))))))
-
-read-numbered : (f : List ℕ) → numbered (readCases f) ≡ true
-unfolding readCases sectionCases settingCases reachCases numbered
-read-numbered f = refl
 
 -- what the program does not refuse, reading does not
 pub report-reads : (f : List ℕ) → refusal (reportCases f) ≡ 0 → readRefusal f ≡ 0

@@ -1,17 +1,18 @@
-// What calls test first: sizes and settings, and padding. The reach call, the only way from micrometres to pixels.
+// What calls test first: settings, lengths and padding. The reach call, the only way from micrometres to pixels.
 use rules::Micrometres;
 use rules::Pixels;
 use rules::Reached;
 use rules::Settings;
 ghost use mathlib.Core.Path.{_≡_};
+ghost use mathlib.Core.Bool.{cond};
+ghost use mathlib.Core.List.{[], _∷_};
 ghost use Prim.Native.Nat.{_+_, _-_, _*_, _^_, _<_, _≤_};
 ghost use lib.ListN.{length};
-ghost use Rattle.rules.specs.Tools.{refusal};
+ghost use Rattle.rules.specs.Tools.{_when_, refusal};
 ghost use Rattle.rules.specs.Images as images;
-ghost use Rattle.rules.specs.Images.{rowBytes, paddingSet};
+ghost use Rattle.rules.specs.Images.{rowBytes, rowsOf, stackBytes, ringsIn, paddingSet};
 ghost use Rattle.rules.specs.Reach as rule;
-ghost use Rattle.laws.specs.Limits.{Ranged};
-ghost use Rattle.rules.specs.Calls.{reachCases, settingCases, lengthCases};
+ghost use Rattle.rules.specs.Calls.{reachCases, settingCases, lengthCases, stackCases, bothCases};
 ghost use Rattle.rules.specs.Outcomes.{Reaches};
 
 fn within(low: usize, high: usize, x: usize) -> bool
@@ -96,6 +97,30 @@ pub fn row_bytes(w: usize) -> usize
     (w + 7) / 8
 }
 
+// The rows of a stack.
+pub fn rows_of(s: Settings) -> usize
+    requires { ⌜ refusal (settingCases s) ≡ 0 ⌝ }
+    ensures { λ r. ⌜ (r ≡ rowsOf s) × (r ≤ 131072) ⌝ }
+{
+    s.n * s.h
+}
+
+// The bytes of a stack.
+pub fn stack_bytes(s: Settings) -> usize
+    requires { ⌜ refusal (settingCases s) ≡ 0 ⌝ }
+    ensures { λ r. ⌜ (r ≡ stackBytes s) × (r ≤ 4194304) ⌝ }
+{
+    rows_of(s) * row_bytes(s.w)
+}
+
+// How many rings go with a stack.
+pub fn rings_in(s: Settings) -> usize
+    requires { ⌜ refusal (settingCases s) ≡ 0 ⌝ }
+    ensures { λ r. ⌜ (r ≡ ringsIn s) × (r ≤ 33488896) ⌝ }
+{
+    (s.n - 1) * (s.h * s.w)
+}
+
 // The lowest `pad` bits of a byte.
 fn pad_mask(pad: usize) -> u8
     requires { ⌜ pad < 8 ⌝ }
@@ -105,7 +130,7 @@ fn pad_mask(pad: usize) -> u8
 }
 
 // Whether one of the first k rows has a padding bit set.
-pub fn padding_set(s: &[u8], w: usize, k: usize) -> bool
+fn padding_set(s: &[u8], w: usize, k: usize) -> bool
     requires { ⌜ (1 ≤ w) × ((w ≤ 256) × (k * rowBytes w ≤ length (now s))) ⌝ }
     ensures { λ r. ⌜ r ≡ paddingSet w k (now (s .entry)) ⌝ }
 {
@@ -126,20 +151,61 @@ pub fn padding_set(s: &[u8], w: usize, k: usize) -> bool
     false
 }
 
-// The refusals 4, 5 and 6 by the lengths of part, support and rings, 0 for none.
-pub fn length_refusal(s: Settings, part: usize, support: usize, rings: usize) -> u8
-    requires { ⌜ Ranged s ⌝ }
-    ensures { λ r. ⌜ r ≡ refusal (lengthCases s part support rings) ⌝ }
+// The refusal `number` where one of the first k rows has a padding bit set, 0 for none.
+pub fn padding_refusal(s: &[u8], w: usize, k: usize, number: u8) -> u8
+    requires { ⌜ (1 ≤ w) × ((w ≤ 256) × (k * rowBytes w ≤ length (now s))) ⌝ }
+    ensures { λ r. ⌜ r ≡ refusal ((number when paddingSet w k (now (s .entry))) ∷ []) ⌝ }
 {
-    let bytes = s.n * s.h * row_bytes(s.w);
+    if padding_set(s, w, k) { number } else { 0 }
+}
+
+// A length where support is stored, and none where it is not.
+fn where_stored(stored: bool, k: usize) -> usize
+    ensures { λ r. ⌜ r ≡ cond stored k 0 ⌝ }
+{
+    if stored { k } else { 0 }
+}
+
+// The refusals 4, 5 and 6 by the lengths of part, support and rings, 0 for none.
+fn length_refusal(s: Settings, stored: bool, part: usize, support: usize, rings: usize) -> u8
+    requires { ⌜ refusal (settingCases s) ≡ 0 ⌝ }
+    ensures { λ r. ⌜ r ≡ refusal (lengthCases s stored part support rings) ⌝ }
+{
+    let bytes = stack_bytes(s);
     if part != bytes {
         return 4;
     }
-    if support != bytes {
+    if support != where_stored(stored, bytes) {
         return 5;
     }
-    if rings != (s.n - 1) * (s.h * s.w) {
+    if rings != where_stored(stored, rings_in(s)) {
         return 6;
     }
     0
+}
+
+// The refusals 1 to 7 of a stack, the lowest first: settings, lengths and the part's padding; 0 for none.
+pub fn stack_refusal(s: Settings, stored: bool, part: &[u8], support: usize, rings: usize) -> u8
+    ensures { λ r. ⌜ r ≡ refusal (stackCases s stored (now (part .entry)) support rings) ⌝ }
+{
+    let a = settings_refusal(s);
+    if a != 0 {
+        return a;
+    }
+    let b = length_refusal(s, stored, part.len(), support, rings);
+    if b != 0 {
+        return b;
+    }
+    padding_refusal(part, s.w, rows_of(s), 7)
+}
+
+// The refusals 1 to 8: those of a stack, and then its support's padding; 0 for none.
+pub fn both_refusal(s: Settings, stored: bool, part: &[u8], support: &[u8], rings: usize) -> u8
+    ensures { λ r. ⌜ r ≡ refusal (bothCases s stored (now (part .entry)) (now (support .entry)) rings) ⌝ }
+{
+    let a = stack_refusal(s, stored, part, support.len(), rings);
+    if a != 0 {
+        return a;
+    }
+    padding_refusal(support, s.w, where_stored(stored, rows_of(s)), 8)
 }

@@ -1,36 +1,37 @@
 -- What a text printed into a buffer is, and the room that the report program has.
 use mathlib.Core.Path.{_≡_, refl, sym, ap, subst, _∙_}
 use mathlib.Core.Bool.{Bool, true, false, cond}
-use mathlib.Core.List.{List, [], _∷_, _++_}
+use mathlib.Core.List.{List, []}
 use Prim.Native.Nat.{ℕ, zero, suc, _+_, _-_, _*_, _≤_, _<_}
 use native.Mathlib.Nat.{mul-le-mul}
 use native.Mathlib.Omega.{arith}
 use lib.Dec.{ltb}
 use lib.ListN.{length, length-append, length-take, length-drop}
-use borrow.Author.Tests.{ltb-true, ltb-false, lt-ltb, le-ltb, eq-eqb}
-use Rattle.rules.specs.Tools.{_when_, refusal, answer, count, joinedUp}
+use borrow.Author.Tests.{ltb-true, ltb-false, lt-ltb, le-ltb}
+use Rattle.rules.specs.Tools.{refusal, answer, count, joinedUp}
 use Rattle.rules.specs.Images.{pixel, ringAt, rowsOf, stackBytes, ringsIn, paddingSet}
 use Rattle.rules.specs.Reach.{boundOf}
 use Rattle.rules.specs.Planning.{excused, plannedRings, plannedBytes}
 use Rattle.rules.specs.Jobs.{over, settingsIn, partIn, layoutOf}
-use Rattle.rules.specs.Calls.{reachCases, settingCases, lengthCases, planCases, planRefusal, planSupport, planRings, sectionCases, readCases, readRefusal, partAnswer}
+use Rattle.rules.specs.Calls.{reachCases, settingCases, planRefusal, sectionCases, readCases, readRefusal, partAnswer}
 use Rattle.rules.specs.Outcomes.{Plans, Reads, HandsPart, Reports}
-use Rattle.rules.specs.Report.{refusedLine, spaced, jobLine, excusedAbove, layerLine, planLines, reportCases, reportOf, textOf}
+use Rattle.rules.specs.Report.{refusedLine, jobLine, excusedAbove, layerLine, planLines, reportCases, reportOf, textOf}
 use Rattle.rules.specs.declared.Settings.{Settings}
 use Rattle.rules.specs.declared.Planned.{Planned}
 use Rattle.rules.specs.declared.Layout.{Layout}
 use Rattle.rules.specs.declared.ReadJob.{ReadJob}
 use Rattle.rules.specs.declared.ReadJob.the-variants.{Job, Refused}
-use Rattle.laws.specs.Limits.{Ranged, ranged, stack-most}
+use Rattle.laws.specs.Limits.{Ranged, ranged}
 use Rattle.laws.specs.Tests.{count-le}
-use Rattle.laws.specs.Refusals.{upTo, at-most, answer-fine, numbered, orElse, refusal-append}
+use Rattle.laws.specs.Refusals.{upTo, at-most, answer-fine}
+use Rattle.laws.specs.StackTables.{plan-exactly}
 use Rattle.laws.specs.Demand1.{job-read, job-refused}
 use Rattle.laws.specs.Demand2.{plan-fills}
 use Rattle.laws.specs.Demand3.{plannedBytes-length, plannedRings-length}
-use Rattle.laws.specs.JobFiles.{Accepted, accepted-exactly}
+use Rattle.laws.specs.JobFiles.{accepted-exactly}
 use Rattle.laws.specs.RoundTrips.{part-length}
 use Rattle.laws.specs.Runs.{length-over}
-use Rattle.laws.specs.ReportLaws.{decimal-length, report-reads, report-too-long, report-no-room, report-prints, report-refused}
+use Rattle.laws.specs.ReportLaws.{report-reads, report-too-long, report-no-room, report-prints, report-refused}
 use Rattle.lines.specs.Lines.{Wrote, spaced-length, line-length}
 use Rattle.lines.specs.Whole.{Whole, linesTo, planned-lines, layer-is, job-short}
 
@@ -94,24 +95,14 @@ part-fits : (f : List ℕ) → length f ≤ 65536 → length (partIn f) ≤ 6553
 unfolding partIn
 part-fits f small = simp (length-take, length-drop) (omega arith)
 
-numbered-settings : (s : Settings) → numbered (settingCases s) ≡ true
-unfolding settingCases reachCases numbered
-numbered-settings s = refl
-
-numbered-lengths : (s : Settings) (part a b : ℕ) → numbered (settingCases s ++ lengthCases s part a b) ≡ true
-unfolding settingCases reachCases lengthCases numbered
-numbered-lengths s part a b = refl
-
 -- planning a part that can be planned, into buffers cut to its lengths
 pub plan-fits : (s : Settings) (part : List ℕ) (a b : ℕ) → Planable s part → a ≡ length part → b ≡ ringsIn s → planRefusal s part a b ≡ 0
-unfolding planRefusal planCases lengthCases
 plan-fits s part a b x ea eb =
-    let ka : a ≡ stackBytes s = ea ∙ x .long in
-    let e : refusal (settingCases s ++ lengthCases s (length part) a b) ≡ 0 =
-    refusal-append (settingCases s) (lengthCases s (length part) a b) (numbered-settings s)
-    ∙ rw (x .settings, eq-eqb (length part) (stackBytes s) (x .long), eq-eqb a (stackBytes s) ka, eq-eqb b (ringsIn s) eb) in
-    refusal-append (settingCases s ++ lengthCases s (length part) a b) ((7 when paddingSet (s .w) (rowsOf s) part) ∷ []) (numbered-lengths s (length part) a b)
-    ∙ rw (e, x .clear)
+    plan-exactly s part a b .1 (record {
+      settings = x .settings;
+      lengths = record { part-long = x .long; support-long = ea ∙ x .long; ring-count = eb };
+      part-clear = x .clear;
+    })
 
 -- by the room for rings
 pub text-no-room : (s : Settings) (part : List ℕ) (count r : ℕ) (now was : List ℕ) → count ≡ ringsIn s → 32768 < count → Printed (refusedLine 17) r now was →

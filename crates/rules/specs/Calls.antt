@@ -1,15 +1,15 @@
 -- Rules 6: for each call its refusals in their order, its answer, and what the lent memory holds afterwards.
-use mathlib.Core.Bool.{Bool, true, false, not, _&&_, _||_, cond}
+use mathlib.Core.Bool.{Bool, true, not, cond}
 use mathlib.Core.List.{List, [], _∷_, _++_}
 use Prim.Native.Nat.{ℕ, _+_, _*_}
-use lib.Dec.{leb, ltb, eqb}
+use lib.Dec.{ltb, eqb}
 use lib.ListN.{length}
 use Rattle.rules.specs.Tools.{Case, _when_, refusal, answer}
 use Rattle.rules.specs.Images.{rowBytes, sized, rowsOf, stackBytes, ringsIn, paddingSet}
-use Rattle.rules.specs.Reach.{settable, reachOf, boundOf}
+use Rattle.rules.specs.Reach.{settable, reachOf, mostReach, boundOf}
 use Rattle.rules.specs.Planning.{plannedRings, plannedBytes}
 use Rattle.rules.specs.Judging.{verdictOf}
-use Rattle.rules.specs.Jobs.{Job, be32, headEnd, partEnd, supportCount, supportEnd, ringCount, jobEnd, settingsIn, storedIn, partIn, supportIn, ringsStored, layoutOf, storedRows, fileOf, fileLength, over}
+use Rattle.rules.specs.Jobs.{Job, be32, headEnd, partEnd, supportCount, supportEnd, ringCount, jobEnd, settingsIn, storedIn, partIn, supportIn, ringsStored, layoutOf, fileOf, fileLength, over}
 use Rattle.rules.specs.declared.Micrometres.{Micrometres}
 use Rattle.rules.specs.declared.Settings.{Settings}
 use Rattle.rules.specs.declared.Place.{Place}
@@ -63,7 +63,7 @@ saysWritten (NotWritten k) = k ∷ []
 unfoldable pub reachCases : Micrometres → Micrometres → List Case
 reachCases p t =
     (2 when not (settable p t))
-    ∷ (3 when ltb 32 (reachOf p t .0))
+    ∷ (3 when ltb mostReach (reachOf p t .0))
     ∷ []
 
 unfoldable pub reachAnswer : Micrometres → Micrometres → Reached
@@ -73,21 +73,35 @@ reachAnswer p t = answer (refusal (reachCases p t)) (By (reachOf p t)) NotReache
 unfoldable pub settingCases : Settings → List Case
 settingCases s = (1 when not (sized s)) ∷ reachCases (s .pitch) (s .overhang)
 
--- Rule 6.2, planning: part is read, support and rings are lent ---------------------------------------------------------------------
+-- What every call on a stack tests first ---------------------------------------------------------------------------------------------
 
-unfoldable pub lengthCases : Settings → ℕ → ℕ → ℕ → List Case
-lengthCases s part support rings =
+-- Rules 1.5 and 1.6 as numbers 4, 5 and 6: without support there are none of its bytes and no rings (writing alone allows that)
+unfoldable pub lengthCases : Settings → Bool → ℕ → ℕ → ℕ → List Case
+lengthCases s stored part support rings =
     (4 when not (eqb part (stackBytes s)))
-    ∷ (5 when not (eqb support (stackBytes s)))
-    ∷ (6 when not (eqb rings (ringsIn s)))
+    ∷ (5 when not (eqb support (cond stored (stackBytes s) 0)))
+    ∷ (6 when not (eqb rings (cond stored (ringsIn s) 0)))
     ∷ []
 
-unfoldable pub planCases : Settings → List ℕ → ℕ → ℕ → List Case
-planCases s part support rings =
+-- numbers 1 to 7, where the part alone is read
+unfoldable pub stackCases : Settings → Bool → List ℕ → ℕ → ℕ → List Case
+stackCases s stored part support rings =
     settingCases s
-    ++ lengthCases s (length part) support rings
+    ++ lengthCases s stored (length part) support rings
     ++ (7 when paddingSet (s .w) (rowsOf s) part)
     ∷ []
+
+-- numbers 1 to 8, where part and support both are
+unfoldable pub bothCases : Settings → Bool → List ℕ → List ℕ → ℕ → List Case
+bothCases s stored part support rings =
+    stackCases s stored part (length support) rings
+    ++ (8 when paddingSet (s .w) (cond stored (rowsOf s) 0) support)
+    ∷ []
+
+-- Rule 6.2, planning: part is read, support and rings are lent ---------------------------------------------------------------------
+
+unfoldable pub planCases : Settings → List ℕ → ℕ → ℕ → List Case
+planCases s part support rings = stackCases s true part support rings
 
 unfoldable pub planRefusal : Settings → List ℕ → ℕ → ℕ → ℕ
 planRefusal s part support rings = refusal (planCases s part support rings)
@@ -106,13 +120,9 @@ planRings s part support rings =
 
 -- Rule 6.3, judging ------------------------------------------------------------------------------------------------------------------
 
+-- planning's table, with 8 behind it
 unfoldable pub judgeCases : Settings → List ℕ → List ℕ → ℕ → List Case
-judgeCases s part support rings =
-    settingCases s
-    ++ lengthCases s (length part) (length support) rings
-    ++ (7 when paddingSet (s .w) (rowsOf s) part)
-    ∷ (8 when paddingSet (s .w) (rowsOf s) support)
-    ∷ []
+judgeCases s part support rings = bothCases s true part support rings
 
 unfoldable pub judgeAnswer : Settings → List ℕ → List ℕ → List ℕ → Judged
 judgeAnswer s part support rings =
@@ -173,15 +183,8 @@ copyRings f rings = answer (refusal (copyCases f (length rings))) (ringsStored f
 -- support may be absent, and then so must rings be
 unfoldable pub writeCases : Job → ℕ → List Case
 writeCases j room =
-    let s : Settings = j .settings in
-    let c : ℕ = storedRows s (length (j .support)) in
-    settingCases s
-    ++ (4 when not (eqb (length (j .part)) (stackBytes s)))
-    ∷ (5 when not (eqb (length (j .support)) 0 || eqb (length (j .support)) (stackBytes s)))
-    ∷ (6 when not (eqb (length (j .rings)) (ringCount s c)))
-    ∷ (7 when paddingSet (s .w) (rowsOf s) (j .part))
-    ∷ (8 when paddingSet (s .w) c (j .support))
-    ∷ (15 when ltb 4294967295 (fileLength j))
+    bothCases (j .settings) (not (eqb (length (j .support)) 0)) (j .part) (j .support) (length (j .rings))
+    ++ (15 when ltb 4294967295 (fileLength j))
     ∷ (16 when ltb room (fileLength j))
     ∷ []
 

@@ -16,12 +16,23 @@ settable p t = within 10 1000 (p .0) && leb (t .0) 10000
 unfoldable pub reachOf : Micrometres → Micrometres → Pixels
 reachOf p t = record { 0 = t .0 / p .0 }
 
+-- Rule 2.2: the largest reach
+abbrev pub mostReach : ℕ
+mostReach = 32
+
 unfoldable pub square : ℕ → ℕ
 square x = x * x
 
 -- Rule 2.3: the bound on squared distances for pair i, the reach squared for every pair
 unfoldable pub boundOf : Settings → ℕ → ℕ
 boundOf s i = square (reachOf (s .pitch) (s .overhang) .0)
+
+-- Rules 2.2 and 2.3: the largest bound, and how many rows of a disc there are at most from its middle on
+abbrev pub mostBound : ℕ
+mostBound = 1024
+
+abbrev pub mostRows : ℕ
+mostRows = 33
 
 -- Rule 2.3: the difference of two rows or columns, and the squared distance of two pixels
 unfoldable pub apart : ℕ → ℕ → ℕ

@@ -5,10 +5,10 @@ use crate::sizes::HEAD_END;
 use crate::sizes::job_end;
 use crate::sizes::part_end;
 use crate::sizes::ring_count;
-use crate::sizes::rows_of;
 use crate::sizes::support_end;
-use limits::padding_set;
+use limits::padding_refusal;
 use limits::row_bytes;
+use limits::rows_of;
 use limits::settings_refusal;
 use rules::Layout;
 use rules::Micrometres;
@@ -27,7 +27,7 @@ ghost use Rattle.laws.specs.JobFiles.{paddingRefusal, ringsRefusal, bodyRefusal
 ghost use Rattle.sections.specs.Reading.{oneOf, Stored};
 
 // Whether a count or a length is one of two.
-pub fn allowed(c: usize, a: usize, b: usize) -> bool
+fn allowed(c: usize, a: usize, b: usize) -> bool
     ensures { λ r. ⌜ r ≡ oneOf a b c ⌝ }
 {
     if c == a { true } else { c == b }
@@ -134,14 +134,12 @@ fn padding(f: &[u8], s: Settings, c: usize) -> u8
 {
     let w = s.w;
     let part = part_in(f, s);
-    if padding_set(part, w, rows_of(s)) {
-        return 7;
+    let k = padding_refusal(part, w, rows_of(s), 7);
+    if k != 0 {
+        return k;
     }
     let support = support_in(f, s, c);
-    if padding_set(support, w, c) {
-        return 8;
-    }
-    0
+    padding_refusal(support, w, c, 8)
 }
 
 // Bytes after section 4.

@@ -1,31 +1,16 @@
 // Where the sections of a job end, for settings that are in range.
+use limits::rings_in;
 use limits::row_bytes;
+use limits::stack_bytes;
 use rules::Settings;
 ghost use mathlib.Core.Path.{_≡_};
 ghost use Prim.Native.Nat.{_≤_};
 ghost use Rattle.rules.specs.Tools.{refusal};
-ghost use Rattle.rules.specs.Images.{rowsOf, stackBytes};
 ghost use Rattle.rules.specs.Jobs as jobs;
 ghost use Rattle.rules.specs.Calls.{settingCases};
 
 // Where section 1 ends.
 pub const HEAD_END: usize = 14;
-
-// The rows of a stack.
-pub fn rows_of(s: Settings) -> usize
-    requires { ⌜ refusal (settingCases s) ≡ 0 ⌝ }
-    ensures { λ r. ⌜ (r ≡ rowsOf s) × (r ≤ 131072) ⌝ }
-{
-    s.n * s.h
-}
-
-// The bytes of a stack.
-pub fn stack_bytes(s: Settings) -> usize
-    requires { ⌜ refusal (settingCases s) ≡ 0 ⌝ }
-    ensures { λ r. ⌜ (r ≡ stackBytes s) × (r ≤ 4194304) ⌝ }
-{
-    rows_of(s) * row_bytes(s.w)
-}
 
 // Where the part ends.
 pub fn part_end(s: Settings) -> usize
@@ -51,7 +36,7 @@ pub fn ring_count(s: Settings, c: usize) -> usize
     if c == 0 {
         return 0;
     }
-    (s.n - 1) * (s.h * s.w)
+    rings_in(s)
 }
 
 // The job's length, where section 3 has count `c`.

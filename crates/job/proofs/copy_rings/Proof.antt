@@ -6,7 +6,7 @@ use Rattle.rules.specs.Calls.{copyAnswer, copyRings}
 use Rattle.rules.specs.declared.Layout.{Layout}
 use Rattle.rules.specs.declared.CopiedRings.the-variants.{Copied, Refused}
 use Rattle.sections.specs.Reading.{copying}
-use Rattle.sections.specs.Steps.{says-no, says-yes}
+use Rattle.laws.specs.Refusals.{says-no, says-yes}
 use borrow.Author.Needs.{needs}
 use Rattle.job.proofs.copy_rings.Statement.{statement}
 use Rattle.job.proofs.copy_rings.Tie as tie

@@ -4,7 +4,7 @@ use denote.Ref.{now}
 use Rattle.rules.specs.Jobs.{partIn}
 use Rattle.rules.specs.Calls.{partAnswer}
 use Rattle.sections.specs.Reading.{head-whole, behind}
-use Rattle.sections.specs.Steps.{says-no, says-yes}
+use Rattle.laws.specs.Refusals.{says-no, says-yes}
 use native.Mathlib.Omega.{arith}
 use borrow.Author.Needs.{needs}
 use Rattle.job.proofs.part.Statement.{statement}

@@ -1,7 +1,7 @@
 use mathlib.Core.Path.{ap}
 use Rattle.rules.specs.Calls.{readAnswer}
 use Rattle.rules.specs.declared.ReadJob.the-variants.{Job, Refused}
-use Rattle.sections.specs.Steps.{says-no, says-yes}
+use Rattle.laws.specs.Refusals.{says-no, says-yes}
 use borrow.Author.Needs.{needs}
 use Rattle.job.proofs.read.Statement.{statement}
 use Rattle.job.proofs.read.Tie as tie

@@ -4,7 +4,7 @@ use denote.Ref.{now}
 use Rattle.rules.specs.Jobs.{supportIn}
 use Rattle.rules.specs.Calls.{supportAnswer}
 use Rattle.sections.specs.Reading.{head-whole, behind, stored-accepted}
-use Rattle.sections.specs.Steps.{says-no, says-yes}
+use Rattle.laws.specs.Refusals.{says-no, says-yes}
 use borrow.Author.Needs.{needs}
 use Rattle.job.proofs.support.Statement.{statement}
 use Rattle.job.proofs.support.Tie as tie

@@ -4,7 +4,7 @@ use Rattle.rules.specs.Jobs.{jobEnd, fileLength}
 use Rattle.rules.specs.Calls.{writeAnswer, writeTo}
 use Rattle.rules.specs.declared.WrittenJob.the-variants.{Length, Refused}
 use Rattle.laws.specs.JobFiles.{writable-exactly}
-use Rattle.sections.specs.Steps.{says-no, says-yes}
+use Rattle.laws.specs.Refusals.{says-no, says-yes}
 use borrow.Author.Needs.{needs}
 use Rattle.job.proofs.write.Statement.{statement}
 use Rattle.job.proofs.write.Tie as tie

@@ -1,51 +1,37 @@
-use native.Mathlib.Omega.{arith}
+use mathlib.Core.Path.{sym, _∙_}
 use borrow.Author.Needs.{needs}
-use Rattle.limits.proofs.Lengths.{bytes-is, lengths-right, refused-4, refused-5, refused-6, rings-is, rows-is}
-use Rattle.laws.specs.Limits.{area-most, rings-most, rows-most, stack-most}
+use Rattle.laws.specs.StackTables.{lengths-in}
+use Rattle.limits.proofs.Lengths.{refused-4, refused-5, refused-6, same-stored}
 use Rattle.limits.proofs.length_refusal.Statement.{statement}
 use Rattle.limits.proofs.length_refusal.Tie as tie
 
-mul-bytes : tie.Need-mul-bytes
-mul-bytes c = omega (arith, rows-most (c .before .args .s) (c .before .pre), rows-is (c .before .args .s))
-
-row-bytes-requires : tie.Need-row-bytes-requires
-row-bytes-requires c κs = search needs
-
-mul-bytes-2 : tie.Need-mul-bytes-2
-mul-bytes-2 c = omega (arith, stack-most (c .before .before .args .s) (c .before .before .pre), bytes-is (c .before .before .args .s) (c .row-bytes .result) (c .row-bytes .ensures .0))
-
 returns : tie.Need-returns
-returns c = refused-4 (c .before .before .before .args .s) (c .before .before .before .args .part) (c .before .before .before .args .support) (c .before .before .before .args .rings) _ (bytes-is (c .before .before .before .args .s) (c .before .row-bytes .result) (c .before .row-bytes .ensures .0)) (c .if1 .taken)
+returns c = let A = c .before .before .args in refused-4 (A .s) (A .stored) (A .part) (A .support) (A .rings) (λ e. c .if1 .taken (e ∙ sym (c .before .stack-bytes .ensures .0)))
 
 returns-2 : tie.Need-returns-2
-returns-2 c = refused-5 (c .before .before .before .before .args .s) (c .before .before .before .before .args .part) (c .before .before .before .before .args .support) (c .before .before .before .before .args .rings) _ (bytes-is (c .before .before .before .before .args .s) (c .before .before .row-bytes .result) (c .before .before .row-bytes .ensures .0)) (c .before .if1 .left) (c .if2 .taken)
-
-sub-if3 : tie.Need-sub-if3
-sub-if3 c = search needs
-
-mul-if3 : tie.Need-mul-if3
-mul-if3 c = omega (arith, area-most (c .before .before .before .before .before .before .args .s .w) (c .before .before .before .before .before .before .args .s .h) (c .before .before .before .before .before .before .pre .w-high) (c .before .before .before .before .before .before .pre .h-high))
-
-mul-if3-2 : tie.Need-mul-if3-2
-mul-if3-2 c = omega (arith, rings-most (c .before .before .before .before .before .before .args .s) (c .before .before .before .before .before .before .pre), rings-is (c .before .before .before .before .before .before .args .s))
+returns-2 c =
+    let A = c .before .before .before .before .args in
+    let b = c .before .before .before .stack-bytes .ensures .0 in
+    refused-5 (A .s) (A .stored) (A .part) (A .support) (A .rings) (c .before .before .if1 .left ∙ b) (λ e. c .if2 .taken (e ∙ sym (same-stored (A .stored) (c .before .where-stored .ensures) b)))
 
 returns-3 : tie.Need-returns-3
-returns-3 c = refused-6 (c .before .before .before .before .before .before .before .args .s) (c .before .before .before .before .before .before .before .args .part) (c .before .before .before .before .before .before .before .args .support) (c .before .before .before .before .before .before .before .args .rings) _ (bytes-is (c .before .before .before .before .before .before .before .args .s) (c .before .before .before .before .before .row-bytes .result) (c .before .before .before .before .before .row-bytes .ensures .0)) (c .before .before .before .before .if1 .left) (c .before .before .before .if2 .left) (c .if3 .taken)
+returns-3 c =
+    let A = c .before .before .before .before .before .before .before .args in
+    let b = c .before .before .before .before .before .before .stack-bytes .ensures .0 in
+    let k = same-stored (A .stored) (c .before .where-stored2 .ensures) (c .before .before .rings-in .ensures .0) in
+    let u = c .before .before .before .if2 .left ∙ same-stored (A .stored) (c .before .before .before .before .where-stored .ensures) b in
+    refused-6 (A .s) (A .stored) (A .part) (A .support) (A .rings) (c .before .before .before .before .before .if1 .left ∙ b) u (λ e. c .if3 .taken (e ∙ sym k))
 
 returns-4 : tie.Need-returns-4
-returns-4 c = lengths-right (c .before .before .before .before .before .before .before .args .s) (c .before .before .before .before .before .before .before .args .part) (c .before .before .before .before .before .before .before .args .support) (c .before .before .before .before .before .before .before .args .rings) _ (bytes-is (c .before .before .before .before .before .before .before .args .s) (c .before .before .before .before .before .row-bytes .result) (c .before .before .before .before .before .row-bytes .ensures .0)) (c .before .before .before .before .if1 .left) (c .before .before .before .if2 .left) (c .if3 .left)
+returns-4 c =
+    let A = c .before .before .before .before .before .before .before .args in
+    let b = c .before .before .before .before .before .before .stack-bytes .ensures .0 in
+    let k = same-stored (A .stored) (c .before .where-stored2 .ensures) (c .before .before .rings-in .ensures .0) in
+    let u = c .before .before .before .if2 .left ∙ same-stored (A .stored) (c .before .before .before .before .where-stored .ensures) b in
+    let p = c .before .before .before .before .before .if1 .left ∙ b in
+    sym (lengths-in (A .s) (A .stored) (A .part) (A .support) (A .rings) (record { part-long = p; support-long = u; ring-count = c .if3 .left ∙ k }))
 
 pub length-refusal-spec : {M : Type 1} → statement M
 length-refusal-spec =
     tie.close
-    (tie.spec
-    mul-bytes
-    row-bytes-requires
-    mul-bytes-2
-    returns
-    returns-2
-    sub-if3
-    mul-if3
-    mul-if3-2
-    returns-3
-    returns-4)
+    (tie.spec (λ c κs. search needs) returns (λ c κs. search needs) returns-2 (λ c κs. search needs) (λ c κs. search needs) returns-3 returns-4)

@@ -2,7 +2,7 @@ use mathlib.Core.Path.{sym, _∙_}
 use denote.Ref.{now}
 use Rattle.laws.specs.JobFiles.{copy-parts}
 use Rattle.sections.specs.Reading.{head-whole, behind, rings-right, rings-wrong}
-use Rattle.sections.specs.Steps.{stops, goes-on}
+use Rattle.laws.specs.Refusals.{stops, goes-on}
 use borrow.Author.Needs.{needs}
 use Rattle.sections.proofs.reading.copy_refusal.Statement.{statement}
 use Rattle.sections.proofs.reading.copy_refusal.Tie as tie

@@ -1,5 +1,5 @@
 use mathlib.Core.Path.{refl}
-use Rattle.sections.specs.Steps.{stops}
+use Rattle.laws.specs.Refusals.{stops}
 use borrow.Author.Needs.{needs}
 use Rattle.sections.proofs.reading.first_of.Statement.{statement}
 use Rattle.sections.proofs.reading.first_of.Tie as tie

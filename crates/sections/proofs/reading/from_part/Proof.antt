@@ -2,7 +2,7 @@ use mathlib.Core.Path.{sym, ap, _∙_}
 use denote.Ref.{now}
 use Rattle.laws.specs.JobFiles.{bodyRefusal, ringsRefusal, section-out}
 use Rattle.sections.specs.Reading.{stored-whole}
-use Rattle.sections.specs.Steps.{stops, goes-on}
+use Rattle.laws.specs.Refusals.{stops, goes-on}
 use borrow.Author.Needs.{needs}
 use Rattle.sections.proofs.reading.from_part.Statement.{statement}
 use Rattle.sections.proofs.reading.from_part.Tie as tie

@@ -1,7 +1,7 @@
 use mathlib.Core.Path.{ap₂, _∙_}
 use Rattle.laws.specs.Refusals.{orElse}
 use Rattle.laws.specs.JobFiles.{ringsRefusal}
-use Rattle.sections.specs.Steps.{stops, goes-on}
+use Rattle.laws.specs.Refusals.{stops, goes-on}
 use borrow.Author.Needs.{needs}
 use Rattle.sections.proofs.reading.from_rings.Statement.{statement}
 use Rattle.sections.proofs.reading.from_rings.Tie as tie

@@ -5,7 +5,7 @@ use Rattle.rules.specs.Tools.{refusal}
 use Rattle.rules.specs.Calls.{settingCases}
 use Rattle.rules.specs.declared.Settings.{Settings}
 use Rattle.sections.specs.Reading.{first-whole}
-use Rattle.sections.specs.Steps.{stops, goes-on}
+use Rattle.laws.specs.Refusals.{stops, goes-on}
 use borrow.Author.Needs.{needs}
 use Rattle.sections.proofs.reading.read_refusal.Statement.{statement}
 use Rattle.sections.proofs.reading.read_refusal.Tie as tie

@@ -2,8 +2,8 @@ use mathlib.Core.Path.{refl}
 use Rattle.rules.specs.Images.{rowsOf}
 use Rattle.laws.specs.Limits.{ranged, rows-most}
 use native.Mathlib.Omega.{arith}
-use Rattle.sections.proofs.sizes.rows_of.Statement.{statement}
-use Rattle.sections.proofs.sizes.rows_of.Tie as tie
+use Rattle.limits.proofs.rows_of.Statement.{statement}
+use Rattle.limits.proofs.rows_of.Tie as tie
 
 mul-result : tie.Need-mul-result
 unfolding rowsOf

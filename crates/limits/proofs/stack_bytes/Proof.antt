@@ -5,8 +5,8 @@ use Rattle.rules.specs.Images.{stackBytes}
 use Rattle.laws.specs.Limits.{ranged}
 use native.Mathlib.Omega.{arith}
 use borrow.Author.Needs.{needs}
-use Rattle.sections.proofs.sizes.stack_bytes.Statement.{statement}
-use Rattle.sections.proofs.sizes.stack_bytes.Tie as tie
+use Rattle.limits.proofs.stack_bytes.Statement.{statement}
+use Rattle.limits.proofs.stack_bytes.Tie as tie
 
 rows-of-requires : tie.Need-rows-of-requires
 rows-of-requires c κs = search needs

@@ -1,0 +1,94 @@
+-- The tables of a stack, numbers 1 to 7 and 1 to 8: what is known where they refuse nothing, and that no more is needed.
+use mathlib.Core.Path.{_≡_, refl, sym, ap, _∙_}
+use mathlib.Core.Logic.{_↔_}
+use mathlib.Core.Bool.{Bool, true, false, not, cond}
+use mathlib.Core.List.{List, [], _∷_, _++_}
+use Prim.Native.Nat.{ℕ}
+use lib.Dec.{eqb}
+use lib.ListN.{length}
+use borrow.Author.Tests.{eq-eqb, eqb-true, not-false}
+use Rattle.rules.specs.Tools.{Case, _when_, refusal}
+use Rattle.rules.specs.Images.{rowsOf, stackBytes, ringsIn, paddingSet}
+use Rattle.rules.specs.Calls.{reachCases, settingCases, lengthCases, stackCases, bothCases, planCases, planRefusal, judgeCases}
+use Rattle.rules.specs.declared.Settings.{Settings}
+use Rattle.laws.specs.Refusals.{numbered, orElse, else-both, refusal-append, case-out, stack-numbered, none-both}
+
+-- the lengths of part, support and rings are right
+pub record Lengths (s : Settings) (stored : Bool) (part sup k : ℕ) : Type 0 where
+  pub part-long : part ≡ stackBytes s
+  pub support-long : sup ≡ cond stored (stackBytes s) 0
+  pub ring-count : k ≡ cond stored (ringsIn s) 0
+
+module _ (s : Settings) (stored : Bool) (part sup k : ℕ) where
+  pub lengths-out : refusal (lengthCases s stored part sup k) ≡ 0 → Lengths s stored part sup k
+  unfolding lengthCases
+  lengths-out e =
+      let (a, e₁) = case-out (not (eqb part (stackBytes s))) 3 _ e in
+      let (b, e₂) = case-out (not (eqb sup (cond stored (stackBytes s) 0))) 4 _ e₁ in
+      let (d, e₃) = case-out (not (eqb k (cond stored (ringsIn s) 0))) 5 _ e₂ in
+      record { part-long = eqb-true _ _ (not-false _ a); support-long = eqb-true _ _ (not-false _ b); ring-count = eqb-true _ _ (not-false _ d) }
+
+  pub lengths-in : Lengths s stored part sup k → refusal (lengthCases s stored part sup k) ≡ 0
+  unfolding lengthCases
+  lengths-in v = rw (eq-eqb _ _ (v .part-long), eq-eqb _ _ (v .support-long), eq-eqb _ _ (v .ring-count))
+
+-- nothing of 1 to 7 is refused
+pub record Stacked (s : Settings) (stored : Bool) (part : List ℕ) (sup k : ℕ) : Type 0 where
+  pub settings : refusal (settingCases s) ≡ 0
+  pub lengths : Lengths s stored (length part) sup k
+  pub part-clear : paddingSet (s .w) (rowsOf s) part ≡ false
+
+module _ (s : Settings) (stored : Bool) (part : List ℕ) (sup k : ℕ) where
+  -- settings, lengths and padding, in this order
+  pub stack-parts : refusal (stackCases s stored part sup k)
+      ≡ orElse (refusal (settingCases s)) (orElse (refusal (lengthCases s stored (length part) sup k)) (cond (paddingSet (s .w) (rowsOf s) part) 7 0))
+  unfolding stackCases lengthCases settingCases reachCases numbered
+  stack-parts =
+      let ls : List Case = lengthCases s stored (length part) sup k in
+      let pad : List Case = (7 when paddingSet (s .w) (rowsOf s) part) ∷ [] in
+      refusal-append (settingCases s) (ls ++ pad) refl ∙ ap (orElse (refusal (settingCases s))) (refusal-append ls pad refl)
+
+  stack-out : refusal (stackCases s stored part sup k) ≡ 0 → Stacked s stored part sup k
+  stack-out e =
+      let (a, e₁) = else-both (refusal (settingCases s)) _ (sym stack-parts ∙ e) in
+      let (b, e₂) = else-both (refusal (lengthCases s stored (length part) sup k)) _ e₁ in
+      record { settings = a; lengths = lengths-out s stored (length part) sup k b; part-clear = case-out (paddingSet (s .w) (rowsOf s) part) 6 0 e₂ .0 }
+
+  stack-in : Stacked s stored part sup k → refusal (stackCases s stored part sup k) ≡ 0
+  stack-in v = stack-parts ∙ rw (v .settings, lengths-in s stored (length part) sup k (v .lengths), v .part-clear)
+
+  pub stack-exactly : (refusal (stackCases s stored part sup k) ≡ 0) ↔ Stacked s stored part sup k
+  stack-exactly = (stack-out, stack-in)
+
+-- nothing of 1 to 8 is
+pub record Both (s : Settings) (stored : Bool) (part sup : List ℕ) (k : ℕ) : Type 0 where
+  pub stack : Stacked s stored part (length sup) k
+  pub support-clear : paddingSet (s .w) (cond stored (rowsOf s) 0) sup ≡ false
+
+module _ (s : Settings) (stored : Bool) (part sup : List ℕ) (k : ℕ) where
+  abbrev pad : List Case
+  pad = (8 when paddingSet (s .w) (cond stored (rowsOf s) 0) sup) ∷ []
+
+  both-out : refusal (bothCases s stored part sup k) ≡ 0 → Both s stored part sup k
+  unfolding bothCases
+  both-out e =
+      let (a, b) = none-both (stackCases s stored part (length sup) k) pad (stack-numbered s stored part (length sup) k) e in
+      record { stack = stack-out s stored part (length sup) k a; support-clear = case-out (paddingSet (s .w) (cond stored (rowsOf s) 0) sup) 7 0 b .0 }
+
+  both-in : Both s stored part sup k → refusal (bothCases s stored part sup k) ≡ 0
+  unfolding bothCases
+  both-in v =
+      refusal-append (stackCases s stored part (length sup) k) pad (stack-numbered s stored part (length sup) k)
+      ∙ rw (stack-in s stored part (length sup) k (v .stack), v .support-clear)
+
+  pub both-exactly : (refusal (bothCases s stored part sup k) ≡ 0) ↔ Both s stored part sup k
+  both-exactly = (both-out, both-in)
+
+-- planning and checking
+pub plan-exactly : (s : Settings) (part : List ℕ) (a b : ℕ) → (planRefusal s part a b ≡ 0) ↔ Stacked s true part a b
+unfolding planRefusal planCases
+plan-exactly s part a b = stack-exactly s true part a b
+
+pub judge-exactly : (s : Settings) (part sup : List ℕ) (k : ℕ) → (refusal (judgeCases s part sup k) ≡ 0) ↔ Both s true part sup k
+unfolding judgeCases
+judge-exactly s part sup k = both-exactly s true part sup k
