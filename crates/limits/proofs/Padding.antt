@@ -1,15 +1,17 @@
 -- Padding: the mask of the unused bits, and the last byte of each row.
 use mathlib.Core.Path.{_≡_, sym, _∙_}
-use mathlib.Core.Bool.{true, false, not}
+use mathlib.Core.Bool.{false, not}
 use mathlib.Core.List.{List}
-use Prim.Native.Nat.{ℕ, zero, suc, _+_, _-_, _*_, _/_, _%_, _^_, _≤_, _<_}
+use Prim.Native.Nat.{ℕ, zero, suc, _+_, _-_, _*_, _%_, _^_, _≤_, _<_}
 use native.Mathlib.Omega.{arith}
 use native.Mathlib.Nat.{mul-le-mul}
-use lib.Dec.{ltb, eqb}
+use lib.Dec.{eqb}
 use lib.ListN.{getD}
-use borrow.Author.Tests.{ltb-true, ltb-false, eq-eqb, ne-eqb}
+use borrow.Author.Tests.{eq-eqb, ne-eqb}
+use Rattle.rules.specs.Tools.{some}
 use Rattle.rules.specs.Images.{rowBytes, paddingSet}
-use Rattle.laws.specs.Tests.{split, some-in, some-none, not-in}
+use Rattle.laws.specs.Tests.{some-none}
+use Rattle.limits.specs.Padding.{PaddingRow}
 use lib.Bits.{bitAnd, and-mask}
 
 pub power-small : (k : ℕ) → k < 8 → (1 ≤ 2 ^ k) × (2 ^ k < 256)
@@ -44,21 +46,24 @@ module _ (w : ℕ) (s : List ℕ) (row at rb mask : ℕ) (er : rb ≡ rowBytes w
       let p : rb * 8 - w ≡ 8 * rowBytes w - w = omega arith in
       rw (em, p, z) (and-mask (getD s (row * rowBytes w + (rowBytes w - 1)) 0) (8 * rowBytes w - w))
 
-  pub pad-hit : (k : ℕ) → row < k → (bitAnd (getD s at 0) mask ≡ 0 → ⊥) → true ≡ paddingSet w k s
-  unfolding paddingSet
-  pad-hit k l ne = sym (some-in k (λ x. not (eqb (padOf w s x) 0)) row l (not-in _ (ne-eqb _ 0 (λ z. ne (last-byte ∙ z)))))
+  -- this row has padding set, and none before it
+  pub pad-hit : (k : ℕ) → row < k → paddingSet w row s ≡ false → (bitAnd (getD s at 0) mask ≡ 0 → ⊥) → PaddingRow w k s row
+  unfolding paddingSet some
+  pad-hit k l b ne = record { most = omega arith; before = b; there = λ x. rw (ne-eqb (padOf w s row) 0 (λ z. ne (last-byte ∙ z))) }
 
-  pub pad-more : ((x : ℕ) → x < row → padOf w s x ≡ 0) → bitAnd (getD s at 0) mask ≡ 0 → (x : ℕ) → x < row + 1 → padOf w s x ≡ 0
-  pad-more all e x l =
-      split (ltb x row) (λ t. all x (ltb-true x row t)) (λ t. let z : x ≡ row = omega (arith, ltb-false x row t) in rw z (sym last-byte ∙ e))
+  -- nor has this one
+  pub pad-more : paddingSet w row s ≡ false → bitAnd (getD s at 0) mask ≡ 0 → paddingSet w (row + 1) s ≡ false
+  unfolding paddingSet some
+  pad-more b e = let z : row + 1 ≡ suc row = omega arith in rw (z, eq-eqb (padOf w s row) 0 (sym last-byte ∙ e)) b
 
-pub pad-none : (w k : ℕ) (s : List ℕ) (row : ℕ) → k ≤ row → ((x : ℕ) → x < row → padOf w s x ≡ 0) → false ≡ paddingSet w k s
-unfolding paddingSet
-pad-none w k s row l all = sym (some-none k (λ x. not (eqb (padOf w s x) 0)) (λ x b. rw (eq-eqb _ 0 (all x (omega arith)))))
+pub pad-none : (w k : ℕ) (s : List ℕ) (row : ℕ) → k ≤ row → row ≤ k → paddingSet w row s ≡ false → PaddingRow w k s k
+pad-none w k s row l m b = let e : row ≡ k = omega arith in record { most = omega arith; before = rw (← e) b; there = λ x. absurd (omega arith) }
 
 -- rows of whole bytes have no padding
-pub pad-whole : (w k : ℕ) (s : List ℕ) (rb pad : ℕ) → rb ≡ rowBytes w → pad ≡ rb * 8 - w → pad ≡ 0 → false ≡ paddingSet w k s
+pub pad-whole : (w k : ℕ) (s : List ℕ) (rb pad : ℕ) → rb ≡ rowBytes w → pad ≡ rb * 8 - w → pad ≡ 0 → PaddingRow w k s k
 unfolding paddingSet
 pad-whole w k s rb pad er ep z =
     let p : 8 * rowBytes w - w ≡ 0 = omega arith in
-    sym (some-none k (λ x. not (eqb (padOf w s x) 0)) (λ x b. rw (p, eq-eqb (getD s (x * rowBytes w + (rowBytes w - 1)) 0 % 1) 0 (omega arith))))
+    let b : some k (λ x. not (eqb (padOf w s x) 0)) ≡ false =
+    some-none k (λ x. not (eqb (padOf w s x) 0)) (λ x b. rw (p, eq-eqb (getD s (x * rowBytes w + (rowBytes w - 1)) 0 % 1) 0 (omega arith))) in
+    record { most = omega arith; before = b; there = λ x. absurd (omega arith) }

@@ -14,6 +14,7 @@ ghost use Rattle.rules.specs.Images.{rowBytes, rowsOf, stackBytes, ringsIn, pad
 ghost use Rattle.rules.specs.Reach as rule;
 ghost use Rattle.rules.specs.Calls.{reachCases, settingCases, lengthCases, stackCases, bothCases};
 ghost use Rattle.rules.specs.Outcomes.{Reaches};
+ghost use Rattle.limits.specs.Padding.{PaddingRow};
 
 fn within(low: usize, high: usize, x: usize) -> bool
     ensures { λ r. ⌜ r ≡ images.within low high x ⌝ }
@@ -129,26 +130,26 @@ fn pad_mask(pad: usize) -> u8
     (1u8 << pad) - 1
 }
 
-// Whether one of the first k rows has a padding bit set.
-fn padding_set(s: &[u8], w: usize, k: usize) -> bool
+// The first of k rows that has a padding bit set, k where none has.
+pub fn padding_row(s: &[u8], w: usize, k: usize) -> usize
     requires { ⌜ (1 ≤ w) × ((w ≤ 256) × (k * rowBytes w ≤ length (now s))) ⌝ }
-    ensures { λ r. ⌜ r ≡ paddingSet w k (now (s .entry)) ⌝ }
+    ensures { λ r. ⌜ PaddingRow w k (now (s .entry)) r ⌝ }
 {
     let rb = row_bytes(w);
     let pad = rb * 8 - w;
     if pad == 0 {
-        return false;
+        return k;
     }
     let mask = pad_mask(pad);
     let last = rb - 1;
     let mut row = 0;
     while row < k {
         if s[row * rb + last] & mask != 0 {
-            return true;
+            return row;
         }
         row += 1;
     }
-    false
+    k
 }
 
 // The refusal `number` where one of the first k rows has a padding bit set, 0 for none.
@@ -156,7 +157,7 @@ pub fn padding_refusal(s: &[u8], w: usize, k: usize, number: u8) -> u8
     requires { ⌜ (1 ≤ w) × ((w ≤ 256) × (k * rowBytes w ≤ length (now s))) ⌝ }
     ensures { λ r. ⌜ r ≡ refusal ((number when paddingSet w k (now (s .entry))) ∷ []) ⌝ }
 {
-    if padding_set(s, w, k) { number } else { 0 }
+    if padding_row(s, w, k) < k { number } else { 0 }
 }
 
 // A length where support is stored, and none where it is not.
