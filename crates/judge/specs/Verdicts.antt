@@ -1,5 +1,5 @@
 -- From what the three searches found to the answer.
-use mathlib.Core.Path.{_≡_, refl, ap}
+use mathlib.Core.Path.{_≡_, refl}
 use mathlib.Core.Bool.{false, true}
 use mathlib.Core.List.{List}
 use Prim.Native.Nat.{ℕ, _-_, _*_, _/_, _<_, _≤_}
@@ -8,12 +8,11 @@ use native.Mathlib.Omega.{arith}
 use lib.ListN.{length}
 use Rattle.rules.specs.Tools.{nothing, found, refusal}
 use Rattle.rules.specs.Images.{Stack, rowBytes, pixel, rowsOf, stackBytes, ringsIn, ringAt, paddingSet}
-use Rattle.rules.specs.Reach.{square, boundOf, reachOf}
+use Rattle.rules.specs.Reach.{boundOf}
 use Rattle.rules.specs.Judging.{overlap, badRing, unheld, firstIn, placeOf, tell, verdict, verdictOf}
 use Rattle.rules.specs.Calls.{bothCases, judgeCases, judgeAnswer}
 use Rattle.rules.specs.Outcomes.{Judges}
 use Rattle.rules.specs.declared.Settings.{Settings}
-use Rattle.rules.specs.declared.Pixels.{Pixels}
 use Rattle.rules.specs.declared.Place.{Place}
 use Rattle.rules.specs.declared.Judged.{Judged}
 use Rattle.rules.specs.declared.Judged.the-variants.{Accepted, Refused, RefusedAt}
@@ -87,17 +86,6 @@ stack-length s len e = e
 -- the layer of a place
 pub layer-most : (x a : ℕ) → x / a ≤ x
 layer-most x a = div-le-self x a
-
--- the bound on squared distances, as the code squares the reach
-pub reach-fits : (s : Settings) (r : Pixels) → Ranged s → r ≡ reachOf (s .pitch) (s .overhang) → r .0 * r .0 ≤ 1024
-reach-fits s r g e =
-    let m = g .reach-high in
-    let l : r .0 ≤ 32 = omega (arith, ap (λ (x : Pixels). x .0) e) in
-    mul-le-mul l l
-
-pub bound-is : (s : Settings) (r : Pixels) → r ≡ reachOf (s .pitch) (s .overhang) → boundOf s ≡ (λ (i : ℕ). r .0 * r .0)
-unfolding boundOf square
-bound-is s r e = rw e
 
 pub pixels-most : (s : Settings) → Ranged s → s .n * (s .h * s .w) ≤ 33554432
 pixels-most s r = mul-le-mul (r .n-high) (mul-le-mul (r .h-high) (r .w-high))

@@ -1,11 +1,10 @@
 // The checker: the call and its verdict.
-use rules::Bound;
 use rules::Judged;
 use rules::Place;
 use rules::Settings;
 ghost use mathlib.Core.Path.{_≡_};
 ghost use mathlib.Core.Bool.{false};
-ghost use Prim.Native.Nat.{ℕ, _<_, _≤_};
+ghost use Prim.Native.Nat.{_<_, _≤_};
 ghost use lib.ListN.{length};
 ghost use Rattle.rules.specs.Images.{rowsOf, stackBytes, paddingSet, ringsIn};
 ghost use Rattle.rules.specs.Reach.{boundOf};
@@ -25,17 +24,6 @@ fn place_of(x: usize, w: usize, h: usize, up: usize) -> Place
     }
 }
 
-// The bound on squared distances.
-fn bound(s: Settings) -> Bound
-    requires { ⌜ Ranged s ⌝ }
-    ensures { λ q. ⌜ (boundOf s ≡ (λ (i : ℕ). q .0)) × (q .0 ≤ 1024) ⌝ }
-{
-    let pitch = s.pitch;
-    let overhang = s.overhang;
-    let reach = limits::reach_of(pitch, overhang);
-    Bound(reach.0 * reach.0)
-}
-
 // What is found in a stack that is not refused: overlap anywhere before any bad ring, and any bad ring before any unheld pixel.
 // Most stacks are accepted by the quick test; only where it is not sure the two searches are made.
 fn verdict(s: Settings, part: &[u8], support: &[u8], rings: &[u16]) -> Judged
@@ -52,7 +40,7 @@ fn verdict(s: Settings, part: &[u8], support: &[u8], rings: &[u16]) -> Judged
     if o < pixels {
         return Judged::RefusedAt(9, place_of(o, w, h, 0));
     }
-    let q = bound(s);
+    let q = limits::bound_of(s);
     if quick::stack::sure(part, support, rings, w, h, n, q) {
         return Judged::Accepted;
     }

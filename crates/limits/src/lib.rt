@@ -1,4 +1,5 @@
 // What calls test first: settings, lengths and padding. The reach call, the only way from micrometres to pixels.
+use rules::Bound;
 use rules::Micrometres;
 use rules::Pixels;
 use rules::Reached;
@@ -6,12 +7,14 @@ use rules::Settings;
 ghost use mathlib.Core.Path.{_≡_};
 ghost use mathlib.Core.Bool.{cond};
 ghost use mathlib.Core.List.{[], _∷_};
-ghost use Prim.Native.Nat.{_+_, _-_, _*_, _^_, _<_, _≤_};
+ghost use Prim.Native.Nat.{ℕ, _+_, _-_, _*_, _^_, _<_, _≤_};
 ghost use lib.ListN.{length};
 ghost use Rattle.rules.specs.Tools.{_when_, refusal};
 ghost use Rattle.rules.specs.Images as images;
 ghost use Rattle.rules.specs.Images.{rowBytes, rowsOf, stackBytes, ringsIn, paddingSet};
 ghost use Rattle.rules.specs.Reach as rule;
+ghost use Rattle.rules.specs.Reach.{boundOf, mostBound};
+ghost use Rattle.laws.specs.Limits.{Ranged};
 ghost use Rattle.rules.specs.Calls.{reachCases, settingCases, lengthCases, stackCases, bothCases};
 ghost use Rattle.rules.specs.Outcomes.{Reaches};
 ghost use Rattle.limits.specs.Padding.{PaddingRow};
@@ -51,6 +54,17 @@ pub fn reach_of(pitch: Micrometres, overhang: Micrometres) -> Pixels
     ensures { λ r. ⌜ r ≡ rule.reachOf pitch overhang ⌝ }
 {
     Pixels((overhang.0 / pitch.0) as usize)
+}
+
+// The bound on squared distances, the same for every pair of layers.
+pub fn bound_of(s: Settings) -> Bound
+    requires { ⌜ Ranged s ⌝ }
+    ensures { λ q. ⌜ (boundOf s ≡ (λ (i : ℕ). q .0)) × (q .0 ≤ mostBound) ⌝ }
+{
+    let pitch = s.pitch;
+    let overhang = s.overhang;
+    let reach = reach_of(pitch, overhang);
+    Bound(reach.0 * reach.0)
 }
 
 // The refusal of a pitch and an overhang, 0 for none.

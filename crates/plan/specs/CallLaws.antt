@@ -1,18 +1,15 @@
 -- Laws of the call: what is known where nothing is refused, and what it answers and leaves.
-use mathlib.Core.Path.{_≡_, refl, ap, _∙_}
+use mathlib.Core.Path.{_≡_, refl}
 use mathlib.Core.Bool.{true, false}
 use mathlib.Core.List.{List}
-use Prim.Native.Nat.{ℕ, _-_, _*_, _≤_}
-use native.Mathlib.Nat.{mul-le-mul}
-use native.Mathlib.Omega.{arith}
+use Prim.Native.Nat.{ℕ, _-_, _*_}
 use lib.ListN.{length}
 use Rattle.rules.specs.Calls.{stackCases, planCases, planRefusal, planAnswer, planSupport, planRings}
 use Rattle.rules.specs.Outcomes.{Plans}
 use Rattle.rules.specs.Images.{rowBytes, rowsOf, stackBytes, ringsIn, paddingSet}
 use Rattle.rules.specs.Planning.{plannedRings, plannedBytes}
-use Rattle.rules.specs.Reach.{reachOf, square, boundOf}
+use Rattle.rules.specs.Reach.{boundOf}
 use Rattle.rules.specs.Tools.{refusal}
-use Rattle.rules.specs.declared.Pixels.{Pixels}
 use Rattle.rules.specs.declared.Planned.the-variants.{Done, Refused}
 use Rattle.rules.specs.declared.Settings.{Settings}
 use Rattle.laws.specs.Limits.{Ranged, ranged}
@@ -34,13 +31,6 @@ planable s part sup k e =
     let l = v .lengths in
     record { range = ranged s (v .settings); part-length = l .part-long; support-length = l .support-long; ring-count = l .ring-count; clean = v .part-clear }
 
--- the bound on squared distances, as the code squares the reach
-pub bound-fits : (s : Settings) (r : Pixels) → Ranged s → r ≡ reachOf (s .pitch) (s .overhang) → r .0 * r .0 ≤ 1024
-bound-fits s r g e =
-    let m = g .reach-high in
-    let l : r .0 ≤ 32 = omega (arith, ap (λ (x : Pixels). x .0) e) in
-    mul-le-mul l l
-
 module _ (s : Settings) (part sup rings : List ℕ) (k : ℕ) (ek : k ≡ refusal (stackCases s true part (length sup) (length rings))) where
   -- refused: all lent memory as it was
   pub refuses : (k ≡ 0 → ⊥) → Plans s part sup rings (Refused k) sup rings
@@ -48,12 +38,12 @@ module _ (s : Settings) (part sup rings : List ℕ) (k : ℕ) (ek : k ≡ refusa
   refuses ne = record { answer = says-no Done Refused ek ne; support = says-no _ (λ j. sup) ek ne; rings = says-no _ (λ j. rings) ek ne }
 
   -- planned: the support and the rings of the part
-  pub plans : k ≡ 0 → (r : Pixels) → r ≡ reachOf (s .pitch) (s .overhang) → (sup' rings' : List ℕ)
-      → sup' ≡ plannedBytes (s .w) (s .h) (s .n) (λ i. r .0 * r .0) part → rings' ≡ plannedRings (s .w) (s .h) (s .n) (λ i. r .0 * r .0) part
+  pub plans : k ≡ 0 → (q : ℕ) → boundOf s ≡ (λ (i : ℕ). q) → (sup' rings' : List ℕ)
+      → sup' ≡ plannedBytes (s .w) (s .h) (s .n) (λ i. q) part → rings' ≡ plannedRings (s .w) (s .h) (s .n) (λ i. q) part
       → Plans s part sup rings Done sup' rings'
-  unfolding planAnswer planSupport planRings planRefusal planCases boundOf square
-  plans z r er sup' rings' es eg = record {
+  unfolding planAnswer planSupport planRings planRefusal planCases
+  plans z q eq sup' rings' es eg = record {
     answer = says-yes Done Refused ek z refl;
-    support = says-yes _ (λ j. sup) ek z (es ∙ ap (λ (x : Pixels). plannedBytes (s .w) (s .h) (s .n) (λ i. x .0 * x .0) part) er);
-    rings = says-yes _ (λ j. rings) ek z (eg ∙ ap (λ (x : Pixels). plannedRings (s .w) (s .h) (s .n) (λ i. x .0 * x .0) part) er);
+    support = says-yes _ (λ j. sup) ek z (rw eq es);
+    rings = says-yes _ (λ j. rings) ek z (rw eq eg);
   }

@@ -1,7 +1,6 @@
 // Planning: support and ring numbers of a stack, from the top layer down. The call refuses, or works, and answers.
 pub mod stack;
 
-use rules::Bound;
 use rules::Planned;
 use rules::Settings;
 ghost use Rattle.rules.specs.Outcomes.{Plans};
@@ -14,19 +13,8 @@ pub fn plan(s: Settings, part: &[u8], support: &mut [u8], rings: &mut [u16]) -> 
     if k != 0 {
         return Planned::Refused(k);
     }
-    let pitch = s.pitch;
-    let overhang = s.overhang;
-    let reach = limits::reach_of(pitch, overhang);
+    let q = limits::bound_of(s);
     let rb = limits::row_bytes(s.w);
-    crate::stack::stack(
-        part,
-        support,
-        rings,
-        s.w,
-        s.h,
-        s.n,
-        rb,
-        Bound(reach.0 * reach.0),
-    );
+    crate::stack::stack(part, support, rings, s.w, s.h, s.n, rb, q);
     Planned::Done
 }
