@@ -8,10 +8,10 @@ ghost use lib.ListN.{length};
 ghost use Rattle.rules.specs.Planning.{near};
 ghost use Rattle.laws.specs.Discs.{Halves};
 ghost use Rattle.image.specs.Rows.{packed, Clean};
-ghost use Rattle.words.specs.Words.{wordBit};
+ghost use Rattle.words.specs.Words.{wordBit, Ones};
 ghost use Rattle.planes.specs.Scratch.{Drawn};
 ghost use Rattle.places.specs.Search.{Least, flat, Sized};
-ghost use Rattle.quick.specs.Sound.{Ones, Whole};
+ghost use Rattle.quick.specs.Sound.{Whole};
 ghost use Rattle.chains.specs.Amiss.{amissHere, amissIn, sureOf, Planes};
 
 // The first of a row, whose near pixels are those of `close`.
@@ -211,7 +211,7 @@ pub fn first(
     ensures { λ s. ⌜ Least 0 ((n - 1) * (h * w)) (flat w h (amissIn ringed w h (q .0) (now (part .entry)) (now (sup .entry)) (now (rings .entry)))) s ⌝ }
 {
     let mut ones = [0u16; 2048];
-    quick::eights::fill_ones(&mut ones);
+    words::ones::fill(&mut ones);
     let mut halves = [0usize; 33];
     roots::halves(q.0, &mut halves);
     in_pairs(

@@ -10,13 +10,6 @@ use Rattle.rules.specs.Images.{bitAt}
 use Rattle.image.specs.Bits.{bit-and, bit-or, bit-not, zero-bit}
 use Rattle.places.specs.Search.{bitIn}
 
--- set in the upper two, and in neither of the lower two
-pub bit-hanging : (u a l b : ℕ) → l < 256 → b < 256 → (k : ℕ) → k < 8
-    → bitAt (bitAnd (bitOr u a) (255 - bitOr l b)) k ≡ (bitAt u k || bitAt a k) && not (bitAt l k || bitAt b k)
-bit-hanging u a l b hl hb k lk =
-    bit-and (bitOr u a) (255 - bitOr l b) k
-    ∙ ap₂ (λ (x y : Bool). x && y) (bit-or u a k) (bit-not (bitOr l b) k (or-lt 8 l b hl hb) lk ∙ ap not (bit-or l b k))
-
 pub no-bit : (m k : ℕ) → m ≡ 0 → bitAt m k ≡ false
 no-bit m k e = ap (λ (n : ℕ). bitAt n k) e ∙ zero-bit k
 

@@ -43,13 +43,6 @@ pub one-alone : (x k j : ℕ) → Digits 64 x 0 (λ i. eqb i (0 + k)) → j < 64
 unfolding bitOfWord
 one-alone x k j D l = let a : 0 + j ≡ j = omega arith in let b : 0 + k ≡ k = omega arith in rw (a, b) at (D .bits (63 - j) j (omega arith))
 
--- the byte of a word
-pub byte-bit : (x b j : ℕ) → b < 8 → j < 8 → bitAt (x / 2 ^ (56 - 8 * b) % 2 ^ 8) j ≡ bitOfWord x (8 * b + j)
-unfolding bitAt bitOfWord place
-byte-bit x b j lb lj =
-    let z : 56 - 8 * b + (7 - j) ≡ 63 - (8 * b + j) = omega arith in
-    place-mod-below (x / 2 ^ (56 - 8 * b)) 8 (7 - j) (omega arith) ∙ place-shr x (56 - 8 * b) (7 - j) ∙ rw z
-
 -- the bits of byte b
 mask-place : (s i : ℕ) → place (255 * 2 ^ s) (s + i) ≡ place 255 i
 mask-place s i = sym (place-shr (255 * 2 ^ s) s i) ∙ ap (λ (v : ℕ). place v i) (shl-shr 255 s)

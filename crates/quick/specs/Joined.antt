@@ -19,7 +19,7 @@ use Rattle.places.specs.Search.{Sized}
 use Rattle.places.specs.Planes.{in-plane}
 use Rattle.places.specs.Rows.{area-fit}
 use Rattle.words.specs.Words.{bitOfWord, wordBit}
-use Rattle.quick.specs.Sound.{Ones, Alike, Step, Good, Got, Tells}
+use Rattle.quick.specs.Sound.{Alike, Step, Good, Got, Tells}
 use Rattle.quick.specs.declared.Told.{Told}
 use Rattle.quick.specs.BitLaws.{bit-zero, bit-or, bit-at, word-bit, covered-bit}
 
@@ -50,14 +50,6 @@ quiet-more rings x j n all m old new e k l =
 
 -- Eight rings at once ----------------------------------------------------------------------------------------------------
 
-pub digit-one : (b d : Bool) → b ≡ d → b ≡ true → 1 ≡ bit d
-unfolding bit
-digit-one b d e t = rw (← e, t)
-
-pub digit-none : (b d : Bool) → b ≡ d → b ≡ false → 0 ≡ bit d
-unfolding bit
-digit-none b d e t = rw (← e, t)
-
 bit-one : (b : Bool) → bit b ≡ 1 → b ≡ true
 unfolding bit
 bit-one true e = refl
@@ -75,12 +67,6 @@ bit-small false = omega arith
 
 pub xor-same : (a b : ℕ) → bitXor a b ≡ 0 → a ≡ b
 xor-same a b e = omega (arith, xor-add-and a b, and-le-l a b, and-le-r a b)
-
-pub ones-at : (l : List ℕ) → Ones l → (m at k : ℕ) → m < 256 → at ≡ m * 8 → k < 8 → getD l (at + k) 0 ≡ bit (bitAt m k)
-ones-at l o m at k lm e lk =
-    let d : (at + k) / 8 ≡ m = omega arith in
-    let r : (at + k) % 8 ≡ k = omega arith in
-    o .is (at + k) (omega arith) ∙ rw (d, r)
 
 -- a byte of the word, and its rings
 pub alike-byte : (rings : List ℕ) (x m b v : ℕ) → ((j : ℕ) → j < 8 → bitAt v j ≡ bitOfWord m (8 * b + j)) → ((k : ℕ) → k < 8 → getD rings (x + 8 * b + k) 0 ≡ bit (bitAt v k)) → Alike rings x m b

@@ -14,11 +14,6 @@ use Rattle.image.specs.Rows.{packed}
 use Rattle.places.specs.Search.{unheldHere, flat, Sized}
 use Rattle.quick.specs.declared.Told.{Told}
 
--- the bits of every byte, each as a number: bit k of byte m stands at 8 * m + k
-pub record Ones (l : List ℕ) : Type 0 where
-  pub long : length l ≡ 2048
-  pub is : (i : ℕ) → i < 2048 → getD l i 0 ≡ bit (bitAt (i / 8) (i % 8))
-
 -- the pixel in row r and column c, or one of its neighbours, has ring v
 pub record Step (w h : ℕ) (rings : List ℕ) (r c v : ℕ) : Type 0 where
   pub row : ℕ

@@ -5,26 +5,8 @@ ghost use Prim.Native.Nat.{ℕ, _+_, _<_, _≤_};
 ghost use lib.ListN.{length, getD};
 ghost use Rattle.rules.specs.Tools.{bit};
 ghost use Rattle.rules.specs.Images.{bitAt};
-ghost use Rattle.quick.specs.Sound.{Ones, Alike};
-
-fn digit(m: u8, k: usize) -> u16
-    requires { ⌜ k < 8 ⌝ }
-    ensures { λ r. ⌜ r ≡ bit (bitAt m k) ⌝ }
-{
-    if places::bits::bit(m, k) { 1 } else { 0 }
-}
-
-// The bits of every byte, each as a number.
-pub fn fill_ones(ones: &mut [u16])
-    requires { ⌜ length (now ones) ≡ 2048 ⌝ }
-    ensures { λ _. ⌜ Ones (now (ones .exit)) ⌝ }
-{
-    let mut i = 0;
-    while i < 2048 {
-        ones[i] = digit((i / 8) as u8, i % 8);
-        i += 1;
-    }
-}
+ghost use Rattle.words.specs.Words.{Ones};
+ghost use Rattle.quick.specs.Sound.{Alike};
 
 fn wide(m: u8) -> usize
     ensures { λ r. ⌜ (r ≡ m) × (r < 256) ⌝ }

@@ -12,10 +12,10 @@ ghost use Rattle.rules.specs.Images.{rowBytes};
 ghost use Rattle.rules.specs.Planning.{near};
 ghost use Rattle.laws.specs.Discs.{Halves};
 ghost use Rattle.image.specs.Rows.{packed, Clean};
-ghost use Rattle.words.specs.Words.{column, wordBit};
+ghost use Rattle.words.specs.Words.{column, wordBit, Ones};
 ghost use Rattle.planes.specs.Scratch.{Ready, Drawn};
 ghost use Rattle.places.specs.Search.{Sized, badHere, unheldHere};
-ghost use Rattle.quick.specs.Sound.{Ones, Long, Shadeless, Bare, Row-sound, Row-good, Row-held};
+ghost use Rattle.quick.specs.Sound.{Long, Shadeless, Bare, Row-sound, Row-good, Row-held};
 
 // Row r. Rings of at most t are near by themselves.
 fn shaded_row(

@@ -4,7 +4,8 @@ ghost use mathlib.Core.Path.{_≡_};
 ghost use mathlib.Core.Bool.{true};
 ghost use Prim.Native.Nat.{ℕ, _-_, _*_, _<_, _≤_};
 ghost use Rattle.laws.specs.Discs.{Halves};
-ghost use Rattle.quick.specs.Sound.{Ones, Whole, Fine};
+ghost use Rattle.words.specs.Words.{Ones};
+ghost use Rattle.quick.specs.Sound.{Whole, Fine};
 
 // Whether no ring of the stack is bad and nothing in it is unheld, pair by pair.
 fn pairs(
@@ -76,7 +77,7 @@ pub fn sure(part: &[u8], sup: &[u8], rings: &[u16], w: usize, h: usize, n: usize
     ensures { λ b. ⌜ (b ≡ true → (x : ℕ) → x < (n - 1) * (h * w) → Fine w h (q .0) (now (part .entry)) (now (sup .entry)) (now (rings .entry)) x) ⌝ }
 {
     let mut ones = [0u16; 2048];
-    crate::eights::fill_ones(&mut ones);
+    words::ones::fill(&mut ones);
     let mut halves = [0usize; 33];
     roots::halves(q.0, &mut halves);
     pairs(part, sup, rings, &ones, &halves, w, h, n, q, trusted(q))

@@ -6,9 +6,9 @@ ghost use mathlib.Core.Path.{_≡_};
 ghost use mathlib.Core.Bool.{true};
 ghost use Prim.Native.Nat.{ℕ, _+_, _*_, _<_, _≤_};
 ghost use lib.ListN.{length, getD};
-ghost use Rattle.words.specs.Words.{wordBit};
+ghost use Rattle.words.specs.Words.{wordBit, Ones};
 ghost use Rattle.places.specs.Search.{Sized};
-ghost use Rattle.quick.specs.Sound.{Ones, Good, Tells};
+ghost use Rattle.quick.specs.Sound.{Good, Tells};
 
 // The word at column x: the bytes whose rings are not alike, pixel by pixel.
 fn eights(

@@ -1,6 +1,6 @@
 use Prim.Native.Nat.{_/_, _^_, _-_, _*_}
 use lib.Bits.{and-mask, mask-lt}
-use Rattle.quick.specs.BitLaws.{byte-bit}
+use Rattle.words.specs.OneLaws.{byte-bit}
 use Prim.Native.Nat.{ℕ}
 use mathlib.Core.Path.{ap, _∙_}
 use Rattle.rules.specs.Images.{bitAt}

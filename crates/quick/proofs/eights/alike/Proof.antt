@@ -1,4 +1,5 @@
-use Rattle.quick.specs.Joined.{ones-at, xor-same}
+use Rattle.words.specs.OneLaws.{ones-at}
+use Rattle.quick.specs.Joined.{xor-same}
 use Rattle.places.specs.Rows.{gather-more}
 use Rattle.rules.specs.Images.{bitAt}
 use Rattle.rules.specs.Tools.{bit}
