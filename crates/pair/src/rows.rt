@@ -54,12 +54,12 @@ pub fn find(
     ensures { λ _. ⌜ Drawn w h (seeds (packed w (now (low .entry))) (packed w (now (up .entry)))) (now (seed .exit)) ⌝ }
 {
     ahead[h] = h;
+    let mut last = h;
     let mut y = h;
     while 0 < y {
         y -= 1;
-        let last = ahead[y + 1];
-        let first = find_row(low, up, left, seed, y, n, last);
-        ahead[y] = first;
+        last = find_row(low, up, left, seed, y, n, last);
+        ahead[y] = last;
     }
 }
 
