@@ -136,30 +136,30 @@ module _ (w : ℕ) (rings : List ℕ) (at x a k got : ℕ) where
 module _ (w h : ℕ) (rings : List ℕ) (r x free first b : ℕ) where
   -- the pixels before byte b are good
   abbrev pub Before : ℕ → Type 0
-  Before n = (k : ℕ) → 0 ≤ k → k < n → Good w h (bitOfWord free k) (bitOfWord first k) rings r (x + k)
+  Before n = (k : ℕ) → 0 ≤ k → k < n → x + k < w → Good w h (bitOfWord free k) (bitOfWord first k) rings r (x + k)
 
   -- the bits of `got`: before byte b those of the pixels that have a ring, then the first pixels
   abbrev pub GotTo : ℕ → ℕ → Type 0
-  GotTo n got = (k : ℕ) → k < 64 → bitOfWord got k ≡ cond (ltb k (8 * n)) (ltb 0 (getD rings (r * w + (x + k)) 0)) (bitOfWord first k)
+  GotTo n got = (k : ℕ) → k < 64 → x + k < w → bitOfWord got k ≡ cond (ltb k (8 * n)) (ltb 0 (getD rings (r * w + (x + k)) 0)) (bitOfWord first k)
 
   -- no ring before byte b is larger
   abbrev pub Least : ℕ → ℕ → Type 0
-  Least n most = (1 ≤ most) × ((k : ℕ) → k < 8 * n → getD rings (r * w + (x + k)) 0 ≤ most)
+  Least n most = (1 ≤ most) × ((k : ℕ) → k < 8 * n → x + k < w → getD rings (r * w + (x + k)) 0 ≤ most)
 
-  before-next : Before (8 * b) → ((k : ℕ) → 8 * b ≤ k → k < 8 * b + 8 → Good w h (bitOfWord free k) (bitOfWord first k) rings r (x + k)) → Before (8 * (b + 1))
-  before-next old new k z l = split (ltb k (8 * b)) (λ t. old k z (ltb-true k (8 * b) t)) (λ t. new k (ltb-false k (8 * b) t) (omega arith))
+  before-next : Before (8 * b) → ((k : ℕ) → 8 * b ≤ k → k < 8 * b + 8 → x + k < w → Good w h (bitOfWord free k) (bitOfWord first k) rings r (x + k)) → Before (8 * (b + 1))
+  before-next old new k z l lw = split (ltb k (8 * b)) (λ t. old k z (ltb-true k (8 * b) t) lw) (λ t. new k (ltb-false k (8 * b) t) (omega arith) lw)
 
-  least-next : (m n : ℕ) → m ≤ n → Least b m → ((k : ℕ) → 8 * b ≤ k → k < 8 * b + 8 → getD rings (r * w + (x + k)) 0 ≤ n) → Least (b + 1) n
-  least-next m n le (o, old) new = (omega arith, λ k l. split (ltb k (8 * b)) (λ t. omega (arith, old k (ltb-true k (8 * b) t))) (λ t. new k (ltb-false k (8 * b) t) (omega arith)))
+  least-next : (m n : ℕ) → m ≤ n → Least b m → ((k : ℕ) → 8 * b ≤ k → k < 8 * b + 8 → x + k < w → getD rings (r * w + (x + k)) 0 ≤ n) → Least (b + 1) n
+  least-next m n le (o, old) new = (omega arith, λ k l lw. split (ltb k (8 * b)) (λ t. omega (arith, old k (ltb-true k (8 * b) t) lw)) (λ t. new k (ltb-false k (8 * b) t) (omega arith) lw))
 
   -- k lies before byte b, in it or behind
   got-next : (was now : ℕ) → GotTo b was → ((k : ℕ) → k < 64 → (8 * b ≤ k → k < 8 * b + 8 → ⊥) → bitOfWord now k ≡ bitOfWord was k) →
-      ((k : ℕ) → 8 * b ≤ k → k < 8 * b + 8 → bitOfWord now k ≡ ltb 0 (getD rings (r * w + (x + k)) 0)) → GotTo (b + 1) now
-  got-next was now old same new k l = elim (decLt k (8 * b)) [
-    | yes u ↦ same k l (λ lo hi. omega arith) ∙ old k l ∙ rw (lt-ltb k (8 * b) u, lt-ltb k (8 * (b + 1)) (omega arith))
+      ((k : ℕ) → 8 * b ≤ k → k < 8 * b + 8 → x + k < w → bitOfWord now k ≡ ltb 0 (getD rings (r * w + (x + k)) 0)) → GotTo (b + 1) now
+  got-next was now old same new k l lw = elim (decLt k (8 * b)) [
+    | yes u ↦ same k l (λ lo hi. omega arith) ∙ old k l lw ∙ rw (lt-ltb k (8 * b) u, lt-ltb k (8 * (b + 1)) (omega arith))
     | no u ↦ elim (decLt k (8 * b + 8)) [
-      | yes v ↦ new k (omega arith) v ∙ rw (lt-ltb k (8 * (b + 1)) (omega arith))
-      | no v ↦ same k l (λ lo hi. v hi) ∙ old k l ∙ rw (le-ltb k (8 * b) (omega arith), le-ltb k (8 * (b + 1)) (omega arith))
+      | yes v ↦ new k (omega arith) v lw ∙ rw (lt-ltb k (8 * (b + 1)) (omega arith))
+      | no v ↦ same k l (λ lo hi. v hi) ∙ old k l lw ∙ rw (le-ltb k (8 * b) (omega arith), le-ltb k (8 * (b + 1)) (omega arith))
     ]
   ]
 
@@ -171,26 +171,27 @@ module _ (w h : ℕ) (rings : List ℕ) (r x free first b : ℕ) where
         rw (z, y) at (like (k - 8 * b) (omega arith))
 
     pub alike-before : Before (8 * b) → Before (8 * (b + 1))
-    alike-before old = before-next old (λ k lo hi. good-bit w h (bitOfWord free k) (bitOfWord first k) rings r (x + k) (alike-ring k lo hi))
+    alike-before old = before-next old (λ k lo hi lw. good-bit w h (bitOfWord free k) (bitOfWord first k) rings r (x + k) (alike-ring k lo hi))
 
     pub alike-least : (most : ℕ) → Least b most → Least (b + 1) most
-    alike-least most old = least-next most most (omega arith) old (λ k lo hi. omega (arith, alike-ring k lo hi, bit-small (bitOfWord first k), old .0))
+    alike-least most old = least-next most most (omega arith) old (λ k lo hi lw. omega (arith, alike-ring k lo hi, bit-small (bitOfWord first k), old .0))
 
     pub alike-got : (got : ℕ) → b < 8 → GotTo b got → GotTo (b + 1) got
-    alike-got got lb old = got-next got got old (λ k l out. refl) (λ k lo hi.
-        old k (omega arith) ∙ rw (le-ltb k (8 * b) lo, alike-ring k lo hi) (sym (bit-some (bitOfWord first k))))
+    alike-got got lb old = got-next got got old (λ k l out. refl) (λ k lo hi lw.
+        old k (omega arith) lw ∙ rw (le-ltb k (8 * b) lo, alike-ring k lo hi) (sym (bit-some (bitOfWord first k))))
 
-  module _ (t : Told) (T : Tells w h rings r x (8 * b) (8 * b + 8) free first t) (g : t .good ≡ true) (lw : x + 64 ≤ w) (lb : b < 8) where
+  -- byte b, of which the image may have some columns, up to column e of the word
+  module _ (e : ℕ) (t : Told) (T : Tells w h rings r x (8 * b) e free first t) (g : t .good ≡ true) (le : e ≤ 8 * b + 8) (ge : (k : ℕ) → k < 8 * b + 8 → x + k < w → k < e) (lb : b < 8) where
     pub told-before : Before (8 * b) → Before (8 * (b + 1))
-    told-before old = before-next old (λ k lo hi. T .fine g k lo hi (omega arith))
+    told-before old = before-next old (λ k lo hi lw. T .fine g k lo (ge k hi lw) lw)
 
     pub told-least : (most : ℕ) → Least b most → Least (b + 1) (bitOr most (t .most))
-    told-least most old = least-next most (bitOr most (t .most)) (or-left most (t .most)) old (λ k lo hi. omega (arith, T .most g k lo hi (omega arith), or-right most (t .most)))
+    told-least most old = least-next most (bitOr most (t .most)) (or-left most (t .most)) old (λ k lo hi lw. omega (arith, T .most g k lo (ge k hi lw) lw, or-right most (t .most)))
 
     pub told-got : (got p : ℕ) → ((k : ℕ) → k < 64 → bitOfWord p k ≡ ((bitOfWord got k && not (eqb (k / 8) b)) || bitOfWord (t .got) k)) → GotTo b got → GotTo (b + 1) p
     told-got got p patch old = got-next got p old
-        (λ k l out. patch k l ∙ rw (ne-eqb (k / 8) b (λ z. out (omega arith) (omega arith)), T .gets g .only k l out, and-true (bitOfWord got k), or-false (bitOfWord got k)))
-        (λ k lo hi. patch k (omega arith) ∙ rw (eq-eqb (k / 8) b (omega arith), and-false (bitOfWord got k)) (T .gets g .has k lo hi (omega arith)))
+        (λ k l out. patch k l ∙ rw (ne-eqb (k / 8) b (λ z. out (omega arith) (omega arith)), T .gets g .only k l (λ lo hi. out lo (omega arith)), and-true (bitOfWord got k), or-false (bitOfWord got k)))
+        (λ k lo hi lw. patch k (omega arith) ∙ rw (eq-eqb (k / 8) b (omega arith), and-false (bitOfWord got k)) (T .gets g .has k lo (ge k hi lw) lw))
 
 -- what the bytes before byte b tell
 pub record Upto (w h : ℕ) (rings : List ℕ) (r x free first b got most : ℕ) : Type 0 where
@@ -217,28 +218,21 @@ upto-next w h rings r x free first got most b d lo hi like u =
     let z : b + (d - b) ≡ d = omega arith in
     rw z at (upto-alike w h rings r x free first got most b (d - b) (omega arith) (λ k a e. like k a (omega arith)) u)
 
--- a word of which the image has w - x columns
-pub short-told : (w h : ℕ) (rings : List ℕ) (r x free first : ℕ) (t : Told) → x < w → Tells w h rings r x 0 (w - x) free first t → Tells w h rings r x 0 64 free first t
-short-told w h rings r x free first t l T = record {
-  fine = λ e k lo hi lw. T .fine e k lo (omega arith) lw;
-  gets = λ e. record { has = λ k lo hi lw. T .gets e .has k lo (omega arith) lw; only = λ k h out. absurd (out (omega arith) h) };
-  most = λ e k lo hi lw. T .most e k lo (omega arith) lw;
-}
-
 -- a word without rings
-pub quiet-told : (w h : ℕ) (rings : List ℕ) (r x free first : ℕ) (b : Bool) → (b ≡ true → (k : ℕ) → k < 64 → getD rings (r * w + (x + k)) 0 ≡ 0) → Tells w h rings r x 0 64 free first (record { good = b; got = 0; most = 0 })
+pub quiet-told : (w h : ℕ) (rings : List ℕ) (r x free first : ℕ) (b : Bool) → (b ≡ true → (k : ℕ) → k < 64 → x + k < w → getD rings (r * w + (x + k)) 0 ≡ 0) → Tells w h rings r x 0 64 free first (record { good = b; got = 0; most = 0 })
 quiet-told w h rings r x free first b none = record {
-  fine = λ e k lo hi lw. good-none w h (bitOfWord free k) (bitOfWord first k) rings r (x + k) (none e k hi);
-  gets = λ e. record { has = λ k lo hi lw. bit-zero k ∙ rw (none e k hi); only = λ k l out. bit-zero k };
-  most = λ e k lo hi lw. omega (arith, none e k hi);
+  fine = λ e k lo hi lw. good-none w h (bitOfWord free k) (bitOfWord first k) rings r (x + k) (none e k hi lw);
+  gets = λ e. record { has = λ k lo hi lw. bit-zero k ∙ rw (none e k hi lw); only = λ k l out. bit-zero k };
+  most = λ e k lo hi lw. omega (arith, none e k hi lw);
 }
 
--- a whole word, after its last byte
-pub word-told : (w h : ℕ) (rings : List ℕ) (r x free first n got most : ℕ) → 8 ≤ n → Upto w h rings r x free first n got most → Tells w h rings r x 0 64 free first (record { good = true; got = got; most = most })
+-- a whole word, after the last byte of which the image has columns
+pub word-told : (w h : ℕ) (rings : List ℕ) (r x free first n got most : ℕ) → ((k : ℕ) → k < 64 → x + k < w → k < 8 * n) → Upto w h rings r x free first n got most →
+    Tells w h rings r x 0 64 free first (record { good = true; got = got; most = most })
 word-told w h rings r x free first n got most ln u = record {
-  fine = λ e k lo hi lw. u .good k lo (omega arith);
-  gets = λ e. record { has = λ k lo hi lw. u .gets k hi ∙ rw (lt-ltb k (8 * n) (omega arith)); only = λ k l out. absurd (out (omega arith) l) };
-  most = λ e k lo hi lw. u .least .1 k (omega arith);
+  fine = λ e k lo hi lw. u .good k lo (ln k hi lw) lw;
+  gets = λ e. record { has = λ k lo hi lw. u .gets k hi lw ∙ rw (lt-ltb k (8 * n) (ln k hi lw)); only = λ k l out. absurd (out (omega arith) l) };
+  most = λ e k lo hi lw. u .least .1 k (ln k hi lw) lw;
 }
 
 -- The words of a row ----------------------------------------------------------------------------------------------------------

@@ -19,7 +19,18 @@ pub fn gather(rings: &[u16], x: usize, n: usize) -> u16
     all
 }
 
-// Whether none of n pixels from pixel x on has a ring. A loop of a fixed length costs least.
+// Whether none of up to 64 pixels from pixel x on has a ring. A loop of a fixed length costs least.
+pub fn none(rings: &[u16], x: usize, n: usize) -> bool
+    requires { ⌜ x + n ≤ length (now rings) ⌝ }
+    ensures { λ b. ⌜ (b ≡ true → (j : ℕ) → j < n → getD (now (rings .entry)) (x + j) 0 ≡ 0) ⌝ }
+{
+    if n == 64 {
+        return gather(rings, x, 64) == 0;
+    }
+    gather(rings, x, n) == 0
+}
+
+// The same of any number, by stretches of 256.
 pub fn quiet(rings: &[u16], x: usize, n: usize) -> bool
     requires { ⌜ x + n ≤ length (now rings) ⌝ }
     ensures { λ b. ⌜ (b ≡ true → (j : ℕ) → j < n → getD (now (rings .entry)) (x + j) 0 ≡ 0) ⌝ }

@@ -4,13 +4,24 @@ use crate::Line;
 use crate::Told;
 ghost use mathlib.Core.Path.{_≡_};
 ghost use mathlib.Core.Bool.{true};
-ghost use Prim.Native.Nat.{ℕ, _+_, _*_, _<_, _≤_};
+ghost use Prim.Native.Nat.{ℕ, min, _+_, _-_, _*_, _<_, _≤_};
 ghost use lib.ListN.{length, getD};
 ghost use Rattle.words.specs.Words.{wordBit, Ones};
 ghost use Rattle.places.specs.Search.{Sized};
-ghost use Rattle.quick.specs.Sound.{Good, Tells};
+ghost use Rattle.quick.specs.Sound.{Alike, Good, Tells};
 
-// The word at column x: the bytes whose rings are not alike, pixel by pixel.
+// The first byte of a word of n columns, from byte b on, that is to be looked at pixel by pixel. Place `at` is the word's first.
+fn next(rings: &[u16], ones: &[u16], at: usize, first: u64, b: usize, n: usize) -> usize
+    requires { ⌜ (64 ≤ n → at + 64 ≤ length (now rings)) × (at < 65536) × Ones (now ones) × (b ≤ 8) ⌝ }
+    ensures { λ r. ⌜ (b ≤ r) × (r ≤ 8) × ((k : ℕ) → b ≤ k → k < r → Alike (now (rings .entry)) at first k) ⌝ }
+{
+    if n < 64 {
+        return b;
+    }
+    crate::eights::unlike(rings, ones, at, first, b)
+}
+
+// The word at column x, of which the image has n columns: the bytes whose rings are not alike, pixel by pixel.
 fn eights(
     rings: &[u16],
     ones: &[u16],
@@ -18,24 +29,26 @@ fn eights(
     h: usize,
     r: usize,
     x: usize,
+    n: usize,
     free: u64,
     first: u64,
 ) -> Told
-    requires { ⌜ (Sized w h × (length (now rings) ≡ h * w)) × ((r < h) × ((x + 64 ≤ w) × Ones (now ones))) ⌝ }
+    requires { ⌜ (Sized w h × (length (now rings) ≡ h * w)) × ((r < h) × ((x < w) × ((n ≡ min (w - x) 64) × Ones (now ones)))) ⌝ }
     ensures { λ t. ⌜ Tells w h (now (rings .entry)) r x 0 64 free first t ⌝ }
 {
     let at = r * w + x;
     let mut got = first;
     let mut most: u16 = 1;
-    let mut b = crate::eights::unlike(rings, ones, at, first, 0);
-    while b < 8 {
-        let t = crate::steps::pixels(rings, w, h, r, x, 8 * b, 8 * b + 8, free, first);
+    let mut b = next(rings, ones, at, first, 0, n);
+    while 8 * b < n {
+        let end = places::bits::smaller(8 * b + 8, n);
+        let t = crate::steps::pixels(rings, w, h, r, x, 8 * b, end, free, first);
         if !t.good {
             return t;
         }
         got = crate::bits::patched(got, t.got, b);
         most = most | t.most;
-        b = crate::eights::unlike(rings, ones, at, first, b + 1);
+        b = next(rings, ones, at, first, b + 1, n);
     }
     Told {
         good: true,
@@ -65,17 +78,15 @@ fn word(
             most: 0,
         };
     }
-    if w < x + 64 {
-        return crate::steps::pixels(rings, w, h, r, x, 0, w - x, free, first);
-    }
+    let n = places::bits::smaller(w - x, 64);
     if free == 0 {
         return Told {
-            good: crate::marks::gather(rings, r * w + x, 64) == 0,
+            good: crate::marks::none(rings, r * w + x, n),
             got: 0,
             most: 0,
         };
     }
-    eights(rings, ones, w, h, r, x, free, first)
+    eights(rings, ones, w, h, r, x, n, free, first)
 }
 
 // Whether the rings of row r are good, by its free and its first pixels; and whether each pixel of `hang` has one. Those that have one

@@ -1,53 +1,42 @@
-use Rattle.quick.specs.Joined.{step-fits, quiet-at, short-told, quiet-told}
+use Rattle.quick.specs.Joined.{step-fits, quiet-told}
 use Rattle.quick.specs.BitLaws.{bit-zero}
 use Rattle.places.specs.Planes.{in-plane}
-use borrow.Author.Tests.{eqb-true}
-use Prim.Native.Nat.{ℕ, _+_, _*_, _<_}
+use lib.ListN.{getD}
+use mathlib.Core.Path.{_≡_, ap, sym, _∙_}
+use Prim.Native.Nat.{ℕ, _+_, _*_, _-_, _<_}
 use native.Mathlib.Omega.{arith}
 use borrow.Author.Needs.{needs}
 use Rattle.quick.proofs.words64.word.Statement.{statement}
 use Rattle.quick.proofs.words64.word.Tie as tie
 
--- src/words64.rt:60:9
 returns : tie.Need-returns
-returns c = record { fine = λ e k a b l. absurd (omega arith); gets = λ e. record { has = λ k a b l. absurd (omega arith); only = λ k l out. bit-zero k }; most = λ e k a b l. absurd (omega arith) }
+returns c = record {
+  fine = λ e k a b l. absurd (omega arith);
+  gets = λ e. record { has = λ k a b l. absurd (omega arith); only = λ k l out. bit-zero k };
+  most = λ e k a b l. absurd (omega arith);
+}
 
--- src/words64.rt:63:9
-pixels-requires : tie.Need-pixels-requires
-pixels-requires c κs = (c .before .before .before .before .pre .0, (c .before .before .before .before .pre .1 .0, (omega arith, (omega arith, omega arith))))
+mul-none : tie.Need-mul-none
+mul-none c = let p = c .before .before .before .before .before .pre in omega (arith, step-fits (c .before .before .before .before .before .args .w) (c .before .before .before .before .before .args .h) (c .before .before .before .before .before .args .r) 0 (p .0 .0) (p .1 .0) (p .0 .0 .w-low), p .0 .0 .w-high)
 
--- src/words64.rt:63:9
+add-none : tie.Need-add-none
+add-none c = let p = c .before .before .before .before .before .pre in omega (arith, step-fits (c .before .before .before .before .before .args .w) (c .before .before .before .before .before .args .h) (c .before .before .before .before .before .args .r) 0 (p .0 .0) (p .1 .0) (p .0 .0 .w-low), p .0 .0 .w-high)
+
+none-requires : tie.Need-none-requires
+none-requires c κs =
+    let a = c .before .before .before .before .before .args in
+    omega (arith, in-plane (a .w) (a .h) (a .r) (a .w - 1) (c .before .before .before .before .before .pre .1 .0) (omega (arith, c .before .before .before .before .before .pre .0 .0 .w-low)), c .before .smaller .ensures, c .before .before .before .before .before .pre .0 .1, c .before .before .before .before .before .pre .0 .0 .w-low)
+
 returns-2 : tie.Need-returns-2
-returns-2 c = short-told (c .before .before .before .before .before .args .w) (c .before .before .before .before .before .args .h) (c .before .before .before .before .before .args .rings .now) (c .before .before .before .before .before .args .r) (c .before .before .before .before .before .args .x) (c .before .before .before .before .before .args .free) (c .before .before .before .before .before .args .first) (c .pixels .result) (omega arith) (c .pixels .ensures)
-
--- src/words64.rt:67:47
-mul-gather : tie.Need-mul-gather
-mul-gather c = omega (arith, step-fits (c .before .before .before .before .before .args .w) (c .before .before .before .before .before .args .h) (c .before .before .before .before .before .args .r) 0 (c .before .before .before .before .before .pre .0 .0) (c .before .before .before .before .before .pre .1 .0) (c .before .before .before .before .before .pre .0 .0 .w-low), c .before .before .before .before .before .pre .0 .0 .w-high)
-
--- src/words64.rt:67:47
-add-gather : tie.Need-add-gather
-add-gather c = omega (arith, step-fits (c .before .before .before .before .before .args .w) (c .before .before .before .before .before .args .h) (c .before .before .before .before .before .args .r) 0 (c .before .before .before .before .before .pre .0 .0) (c .before .before .before .before .before .pre .1 .0) (c .before .before .before .before .before .pre .0 .0 .w-low), c .before .before .before .before .before .pre .0 .0 .w-high)
-
--- src/words64.rt:67:19
-gather-requires : tie.Need-gather-requires
-gather-requires c κs = omega (arith, in-plane (c .before .before .before .before .before .args .w) (c .before .before .before .before .before .args .h) (c .before .before .before .before .before .args .r) (c .before .before .before .before .before .args .x + 63) (c .before .before .before .before .before .pre .1 .0) (omega arith))
-
--- src/words64.rt:66:9
-returns-3 : tie.Need-returns-3
-returns-3 c =
+returns-2 c =
     let a = c .before .before .before .before .before .before .args in
-    quiet-told (a .w) (a .h) (a .rings .now) (a .r) (a .x) (a .free) (a .first) _ (λ e k b. quiet-at (a .rings .now) (a .r * a .w) (a .x) 64 (c .gather .result) k (eqb-true _ 0 e) (c .gather .ensures) b)
+    quiet-told (a .w) (a .h) (a .rings .now) (a .r) (a .x) (a .free) (a .first) _ (λ e k b lw.
+    sym (ap (λ (p : ℕ). getD (a .rings .now) p 0) (omega arith)) ∙ c .none .ensures e k (omega (arith, c .before .before .smaller .ensures)))
 
--- src/words64.rt:71:5
 eights-requires : tie.Need-eights-requires
-eights-requires c κs = (c .before .before .before .before .before .pre .0, (c .before .before .before .before .before .pre .1 .0, (omega arith, c .before .before .before .before .before .pre .1 .1 .1)))
-
--- src/words64.rt:46:1
-returns-4 : tie.Need-returns-4
-returns-4 c = c .eights .ensures
+eights-requires c κs = (c .before .before .before .before .before .pre .0, (c .before .before .before .before .before .pre .1 .0, (omega arith, (c .before .smaller .ensures, c .before .before .before .before .before .pre .1 .1 .1))))
 
 pub word-spec : {M : Type 1} → statement M
 word-spec =
     tie.close
-    (tie.spec returns (λ c. search needs) (λ c. search needs) pixels-requires returns-2 mul-gather add-gather gather-requires returns-3
-    eights-requires returns-4)
+    (tie.spec returns (λ c. search needs) (λ c κs. search needs) mul-none add-none none-requires returns-2 eights-requires (λ c. search needs))
