@@ -3,6 +3,7 @@ use mathlib.Core.Path.{_≡_, refl, sym, ap, subst, _∙_}
 use mathlib.Core.Bool.{Bool, true, false, not, _&&_, _||_, cond}
 use mathlib.Core.List.{List}
 use Prim.Native.Nat.{ℕ, zero, suc, _+_, _-_, _*_, _/_, _%_, _^_, _<_, _≤_}
+use native.Mathlib.Nat.{add-mul}
 use native.Mathlib.Omega.{arith}
 use borrow.Author.Count.{below-more}
 use native.Mathlib.Decide.{decLt}
@@ -76,6 +77,13 @@ alike-byte rings x m b v byte like k l = like k l ∙ ap bit (byte k l)
 
 pub step-fits : (w h y c : ℕ) → Sized w h → y < h → c < w → (y * w ≤ 65536) × (y * w + c ≤ 65536)
 step-fits w h y c s ly lc = (omega (arith, in-plane w h y c ly lc, area-fit w h s), omega (arith, in-plane w h y c ly lc, area-fit w h s))
+
+-- place j of row i of the nine about a pixel
+pub nine-at : (w r c i j : ℕ) → (r - 1) * w + (c - 1) + i * w + j ≡ (r - 1 + i) * w + (c - 1 + j)
+nine-at w r c i j = let e : (r - 1 + i) * w ≡ (r - 1) * w + i * w = add-mul (r - 1) i w in omega arith
+
+pub nine-in : (w h r c i j : ℕ) → ((0 < r) × (r + 1 < h)) × ((0 < c) × (c + 1 < w)) → i < 3 → j < 3 → (r - 1) * w + (c - 1) + i * w + j < h * w
+nine-in w h r c i j ((a, b), (d, e)) li lj = rw (nine-at w r c i j) (in-plane w h (r - 1 + i) (c - 1 + j) (omega arith) (omega arith))
 
 pub step-at : (w h : ℕ) (rings : List ℕ) (r c v y x : ℕ) → (y < h) × ((r ≤ y + 1) × (y ≤ r + 1)) → (x < w) × ((c ≤ x + 1) × (x ≤ c + 1)) →
     getD rings (y * w + x) 0 ≡ v → Step w h rings r c v

@@ -34,6 +34,38 @@ fn steps(rings: &[u16], w: usize, h: usize, r: usize, c: usize, v: u16) -> bool
     found
 }
 
+// The same of a pixel that has all eight neighbours.
+fn steps_inside(rings: &[u16], w: usize, h: usize, r: usize, c: usize, v: u16) -> bool
+    requires { ⌜ (Sized w h × (length (now rings) ≡ h * w)) × (((0 < r) × (r + 1 < h)) × ((0 < c) × (c + 1 < w))) ⌝ }
+    ensures { λ b. ⌜ (b ≡ true → Step w h (now (rings .entry)) r c v) ⌝ }
+{
+    let at = (r - 1) * w + (c - 1);
+    let mut found = false;
+    'rows: for i in 0..3 {
+        let start = at + i * w;
+        for j in 0..3 {
+            if rings[start + j] == v {
+                found = true;
+                break 'rows;
+            }
+        }
+    }
+    found
+}
+
+// Whether there is a row or column on both sides of x, of n in all.
+fn inside(x: usize, n: usize) -> bool
+    ensures { λ b. ⌜ (b ≡ true → (0 < x) × (x + 1 < n)) ⌝ }
+{
+    if x == 0 {
+        return false;
+    }
+    if n == 0 {
+        return false;
+    }
+    x < n - 1
+}
+
 // Whether the pixel at bit k of the word at column x may carry its ring v.
 fn good(
     rings: &[u16],
@@ -58,6 +90,9 @@ fn good(
     }
     if !crate::bits::bit(free, k) {
         return false;
+    }
+    if crate::bits::both(inside(r, h), inside(x + k, w)) {
+        return steps_inside(rings, w, h, r, x + k, v - 1);
     }
     steps(rings, w, h, r, x + k, v - 1)
 }
