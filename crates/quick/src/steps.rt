@@ -13,7 +13,7 @@ fn beside(x: usize, i: usize, n: usize) -> usize
     requires { ⌜ (x < n) × ((i < 3) × (n ≤ 256)) ⌝ }
     ensures { λ y. ⌜ (y < n) × ((x ≤ y + 1) × (y ≤ x + 1)) ⌝ }
 {
-    places::bits::smaller(places::bits::less(x + i, 1), n - 1)
+    places::bits::less(places::bits::smaller(x + i, n), 1)
 }
 
 // Whether a neighbour has ring v, which the pixel itself has not.
