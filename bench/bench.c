@@ -35,11 +35,13 @@ static void die(const char *why)
     exit(2);
 }
 
+/* Pages that nobody wrote are all one page of zeros, which some machines read slowly: so each is written once. */
 static void *room(size_t count, size_t width)
 {
-    void *p = calloc(count + 1, width);
+    volatile unsigned char *p = calloc(count + 1, width);
     if (p == NULL) die("out of memory");
-    return p;
+    for (size_t k = 0; k < (count + 1) * width; k += 4096) p[k] = 0;
+    return (void *)p;
 }
 
 static void accept(kg_answer answer)
