@@ -28,6 +28,12 @@ held-cases false true false above bare e f = f refl refl
 held-cases false false false true bare e f = clash refl e
 held-cases false false false false bare e f = refl
 
+lacks-cases : (low up below : Bool) → (up && not (low || below)) ≡ false → (up && not low) ≡ true → below ≡ false → ⊥
+lacks-cases true true below e s b = clash s refl
+lacks-cases false true true e s b = clash refl b
+lacks-cases false true false e s b = clash refl e
+lacks-cases low false below e s b = clash s refl
+
 module _ (w h n : ℕ) (e : n ≡ h * rowBytes w) where
   at-byte : (s : List ℕ) (p : ℕ) → packed w s p ≡ bitAt (getD s (p / w * rowBytes w + p % w / 8) 0) (p % w % 8)
   unfolding packed
@@ -49,3 +55,8 @@ module _ (w h n : ℕ) (e : n ≡ h * rowBytes w) where
   all-held low up below above ring none held p l =
       held-cases (packed w low p) (packed w up p) (packed w below p) (packed w above p) (eqb (ring p) 0) (none-hung low below above none p l)
       (λ s b. ne-eqb (ring p) 0 (λ z. omega (arith, held p l s b)))
+
+  -- no shadow pixel lacks support below where the upper layer hangs nowhere
+  pub none-lacks : (low up below : List ℕ) → ((j : ℕ) → j < n → NoneHangs low below up j) → (p : ℕ) → p < h * w → shadow (packed w low) (packed w up) p ≡ true → packed w below p ≡ false → ⊥
+  unfolding shadow
+  none-lacks low up below none p l s b = lacks-cases (packed w low p) (packed w up p) (packed w below p) (none-hung low below up none p l) s b

@@ -196,6 +196,44 @@ fn rows(
     }
 }
 
+// A pair in which nothing is near but part itself: no ring can be good, and only part and support hold.
+fn ringless(low: &[u8], up: &[u8], below: &[u8], rings: &[u16], w: usize, h: usize) -> Sure
+    requires { ⌜ Sized w h × (Long (h * rowBytes w) (now low) (now up) (now below) (now below) × (length (now rings) ≡ h * w)) ⌝ }
+    ensures { λ s. ⌜ (s .rings ≡ true → (r : ℕ) → r < h → Bare w (now (rings .entry)) r) ⌝ }
+    ensures { λ s. ⌜ (s .held ≡ true → (r : ℕ) → r < h → Row-held w (now (low .entry)) (now (up .entry)) (now (below .entry)) (now (rings .entry)) r) ⌝ }
+{
+    let seen = crate::looks::look(low, up, below, up, h * limits::row_bytes(w));
+    Sure {
+        rings: crate::marks::bare(rings, 0, h, w),
+        held: seen.hung == 0,
+    }
+}
+
+// A pair that has shadow.
+fn shaded_pair(
+    low: &[u8],
+    up: &[u8],
+    below: &[u8],
+    rings: &[u16],
+    ones: &[u16],
+    halves: &[usize],
+    w: usize,
+    h: usize,
+    q: Bound,
+    t: u16,
+) -> Sure
+    requires fits { ⌜ Sized w h × (Clean w h (now low) × (Long (h * rowBytes w) (now low) (now up) (now below) (now below) × (length (now rings) ≡ h * w))) ⌝ }
+    requires tables { ⌜ (Ones (now ones) × Halves (q .0) (now halves)) × (q .0 ≤ 1024) ⌝ }
+    ensures { λ s. ⌜ (s .rings ≡ true → (r : ℕ) → r < h → Row-good w h (q .0) t (now (low .entry)) (now (up .entry)) (now (rings .entry)) r) ⌝ }
+    ensures { λ s. ⌜ (s .held ≡ true → (r : ℕ) → r < h → Row-held w (now (low .entry)) (now (up .entry)) (now (below .entry)) (now (rings .entry)) r) ⌝ }
+{
+    if q.0 == 0 {
+        return ringless(low, up, below, rings, w, h);
+    }
+    let mut disc = [0u64; 1610];
+    rows(low, up, below, rings, ones, &mut disc, halves, w, h, q, t)
+}
+
 // A pair. Rings of at most t are near by themselves.
 pub fn pair(
     low: &[u8],
@@ -222,8 +260,7 @@ pub fn pair(
             held: seen.hung == 0,
         };
     }
-    let mut disc = [0u64; 1610];
-    let s = rows(low, up, below, rings, ones, &mut disc, halves, w, h, q, t);
+    let s = shaded_pair(low, up, below, rings, ones, halves, w, h, q, t);
     Sure {
         rings: s.rings,
         held: crate::bits::both(s.held, seen.hung == 0),

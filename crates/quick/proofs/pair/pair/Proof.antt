@@ -6,7 +6,6 @@ use Rattle.rules.specs.Images.{rowBytes}
 use Rattle.rules.specs.Planning.{shadow, near}
 use Rattle.laws.specs.Tests.{clash, and-l, and-r}
 use Rattle.places.specs.Rows.{bytes-fit, area-fit}
-use Rattle.planes.specs.PlaneLaws.{zero-ready}
 use Rattle.image.specs.Rows.{packed}
 use borrow.Author.Tests.{eqb-true}
 use lib.ListN.{getD}
@@ -43,31 +42,29 @@ returns c =
           (λ p l s b. clash s (no-shadow (a .w) (a .h) (a .h * c .before .before .before .before .before .row-bytes .result) n (a .low .now) (a .up .now) (c .before .before .before .before .look .ensures .0 (c .before .before .if1 .taken)) p l))),
     )
 
-rows-requires : tie.Need-rows-requires
-rows-requires c κs =
-    let p = c .before .before .before .before .before .before .before .before .before .before .before .before .pre in
-    let L = p .1 .0 in (
-      (p .0 .0 .0, (p .0 .1 .0, (record { low-long = L .low-long; up-long = L .up-long; below-long = L .below-long; above-long = L .below-long }, p .0 .1 .1))),
-      (p .1 .1, (zero-ready (c .before .before .before .before .before .before .before .before .before .before .before .before .args .w) (c .before .before .before .before .before .before .before .before .before .before .before .before .args .h), p .0 .0 .1 .1)),
-    )
+shaded-pair-requires : tie.Need-shaded-pair-requires
+shaded-pair-requires c κs =
+    let p = c .before .before .before .before .before .before .before .before .before .before .before .pre in
+    let L = p .1 .0 in
+    ((p .0 .0 .0, (p .0 .1 .0, (record { low-long = L .low-long; up-long = L .up-long; below-long = L .below-long; above-long = L .below-long }, p .0 .1 .1))), (p .1 .1, p .0 .0 .1 .1))
 
 returns-2 : tie.Need-returns-2
 returns-2 c =
-    let a = c .before .before .before .before .before .before .before .before .before .before .before .before .before .before .before .before .args in
-    let n : a .h * c .before .before .before .before .before .before .before .before .row-bytes .result ≡ a .h * rowBytes (a .w) = ap (λ (b : ℕ). a .h * b) (c .before .before .before .before .before .before .before .before .row-bytes .ensures .0) in
+    let a = c .before .before .before .before .before .before .before .before .before .before .before .before .before .before .args in
+    let n : a .h * c .before .before .before .before .before .before .row-bytes .result ≡ a .h * rowBytes (a .w) = ap (λ (b : ℕ). a .h * b) (c .before .before .before .before .before .before .row-bytes .ensures .0) in
     let ring : ℕ → ℕ = λ o. getD (a .rings .now) o 0 in (
       (λ e.
           let all = all-rows (a .w) (a .h) (λ p. Sound (a .w) (a .h) (packed (a .w) (a .low .now)) (packed (a .w) (a .up .now)) ring p
-          × (a .t < ring p → near (a .w) (a .h) (a .q .0) (packed (a .w) (a .low .now)) p ≡ true)) (c .before .before .before .rows .ensures .0 e) in
-          sound-good (a .w) (a .h) (a .q .0) (a .t) (packed (a .w) (a .low .now)) (packed (a .w) (a .up .now)) ring (λ p l. all p l .0) (c .before .before .before .before .before .before .before .before .before .before .before .before .before .before .before .before .pre .0 .0 .1 .0) (λ p l. all p l .1)),
+          × (a .t < ring p → near (a .w) (a .h) (a .q .0) (packed (a .w) (a .low .now)) p ≡ true)) (c .before .before .shaded-pair .ensures .0 e) in
+          sound-good (a .w) (a .h) (a .q .0) (a .t) (packed (a .w) (a .low .now)) (packed (a .w) (a .up .now)) ring (λ p l. all p l .0) (c .before .before .before .before .before .before .before .before .before .before .before .before .before .before .pre .0 .0 .1 .0) (λ p l. all p l .1)),
       (λ e.
           let b = sym (c .both .ensures) ∙ e in
-          all-held (a .w) (a .h) (a .h * c .before .before .before .before .before .before .before .before .row-bytes .result) n (a .low .now) (a .up .now) (a .below .now) (a .above .now) ring (c .before .before .before .before .before .before .before .look .ensures .1 (eqb-true _ 0 (and-r (c .before .before .before .rows .result .held) _ b)))
+          all-held (a .w) (a .h) (a .h * c .before .before .before .before .before .before .row-bytes .result) n (a .low .now) (a .up .now) (a .below .now) (a .above .now) ring (c .before .before .before .before .before .look .ensures .1 (eqb-true _ 0 (and-r (c .before .before .shaded-pair .result .held) _ b)))
           (all-rows (a .w) (a .h) (λ p. shadow (packed (a .w) (a .low .now)) (packed (a .w) (a .up .now)) p ≡ true → packed (a .w) (a .below .now) p ≡ false → 0 < ring p)
-          (c .before .before .before .rows .ensures .1 (and-l (c .before .before .before .rows .result .held) _ b)))),
+          (c .before .before .shaded-pair .ensures .1 (and-l (c .before .before .shaded-pair .result .held) _ b)))),
     )
 
 pub pair-spec : {M : Type 1} → statement M
 pair-spec =
     tie.close
-    (tie.spec row-bytes-requires mul-look look-requires mul-quiet quiet-requires returns (λ c. search needs) rows-requires (λ c κs. search needs) returns-2)
+    (tie.spec row-bytes-requires mul-look look-requires mul-quiet quiet-requires returns shaded-pair-requires (λ c κs. search needs) returns-2)
