@@ -4,8 +4,6 @@ use native.Mathlib.Omega.{arith}
 use borrow.Author.Needs.{needs}
 use Rattle.answers.proofs.flag.Statement.{statement}
 use Rattle.answers.proofs.flag.Tie as tie
-use Rattle.answers.proofs.flag.Reads as reads
-use Rattle.answers.proofs.flag.Lts as lts
 
 returns : tie.Need-returns
 unfolding bit

@@ -8,24 +8,12 @@ use native.Mathlib.Omega.{arith}
 use borrow.Author.Needs.{needs}
 use Rattle.answers.proofs.tell.Statement.{statement}
 use Rattle.answers.proofs.tell.Tie as tie
-use Rattle.answers.proofs.tell.Reads as reads
-use Rattle.answers.proofs.tell.Lts as lts
-use Rattle.answers.proofs.flag.Reads as flag-reads
 
 abbrev Inv-loop : tie.InvT-loop
 Inv-loop room₀ stored all i₀ room i = (i ≤ 10) × (i ≤ length room₀) × (room ≡ take i all ++ drop i room₀)
 
 abbrev μ-loop : tie.MeasureT-loop
 μ-loop room₀ stored all i₀ room i = 10 - i
-
-flag-requires : tie.Need-flag-requires Inv-loop μ-loop
-flag-requires c κs = search needs
-
-cast-t7 : tie.Need-cast-t7 Inv-loop μ-loop
-cast-t7 c = search needs
-
-cast-t8 : tie.Need-cast-t8 Inv-loop μ-loop
-cast-t8 c = search needs
 
 loop-holds : tie.Need-loop-holds Inv-loop μ-loop
 loop-holds c = (omega arith, omega arith, refl)
@@ -36,9 +24,6 @@ same-length c = ap length (c .before .before .loop .inv .2) ∙ filled-length (c
 returns : tie.Need-returns Inv-loop μ-loop
 returns c = told-short (c .before .before .before .before .before .before .before .before .args .l) (c .before .before .before .before .before .flag .result) (c .before .before .before .before .before .before .before .before .args .room .now) (c .before .before .loop .room) (c .before .before .loop .i) (c .before .before .before .before .before .flag .ensures) (c .before .before .loop .inv .0) (c .before .before .loop .inv .1) (c .if1 .taken) (c .before .before .loop .inv .2)
 
-mul-room : tie.Need-mul-room Inv-loop μ-loop
-mul-room c = search needs
-
 array-read-room : tie.Need-array-read-room Inv-loop μ-loop
 array-read-room c = c .before .loop-test .taken
 
@@ -47,12 +32,6 @@ mul-room-2 c = omega (arith, c .before .before .loop .inv .0)
 
 slice-write-room : tie.Need-slice-write-room Inv-loop μ-loop
 slice-write-room c = c .if1 .left
-
-add-i : tie.Need-add-i Inv-loop μ-loop
-add-i c = search needs
-
-loop-less : tie.Need-loop-less Inv-loop μ-loop
-loop-less c = search needs
 
 loop-again : tie.Need-loop-again Inv-loop μ-loop
 loop-again c = let n : length (c .before .before .loop .room) ≡ length (c .before .before .before .before .before .before .before .before .args .room .now) = ap length (c .before .before .loop .inv .2) ∙ filled-length (c .before .before .before .before .before .before .before .before .args .room .now) (toldWith (c .before .before .before .before .before .before .before .before .args .l) (c .before .before .before .before .before .flag .result)) (c .before .before .loop .i) (c .before .before .loop .inv .0) (c .before .before .loop .inv .1) in (omega arith, omega (arith, c .if1 .left), ap (λ (r : List ℕ). set r (c .before .before .loop .i) (getD (toldWith (c .before .before .before .before .before .before .before .before .args .l) (c .before .before .before .before .before .flag .result)) (c .before .before .loop .i) 0)) (c .before .before .loop .inv .2) ∙ filled-more (c .before .before .before .before .before .before .before .before .args .room .now) (toldWith (c .before .before .before .before .before .before .before .before .args .l) (c .before .before .before .before .before .flag .result)) (c .before .before .loop .i) (c .before .loop-test .taken) (omega (arith, c .if1 .left)))
@@ -66,21 +45,6 @@ returns-2 c = told-all (c .before .before .before .before .before .before .befor
 pub tell-spec : {M : Type 1} → statement M
 tell-spec =
     tie.close
-    (tie.spec
-    Inv-loop
-    μ-loop
-    flag-requires
-    cast-t7
-    cast-t8
-    loop-holds
-    same-length
-    returns
-    mul-room
-    array-read-room
-    mul-room-2
-    slice-write-room
-    add-i
-    loop-less
-    loop-again
-    same-length-2
+    (tie.spec Inv-loop μ-loop (λ c κs. search needs) (λ c. search needs) (λ c. search needs) loop-holds same-length returns
+    (λ c. search needs) array-read-room mul-room-2 slice-write-room (λ c. search needs) (λ c. search needs) loop-again same-length-2
     returns-2)

@@ -11,9 +11,6 @@ use borrow.Author.Needs.{needs}
 use Rattle.job.proofs.copy_rings.Statement.{statement}
 use Rattle.job.proofs.copy_rings.Tie as tie
 
-copy-refusal-requires : tie.Need-copy-refusal-requires
-copy-refusal-requires c κs = search needs
-
 returns : tie.Need-returns
 unfolding copyAnswer copyRings
 returns c = record { answer = says-no Copied Refused (c .before .copy-refusal .ensures) (c .if1 .taken); rings = says-no (ringsStored (now (c .before .before .before .before .args .file))) (λ k. now (c .before .before .before .before .args .rings)) (c .before .copy-refusal .ensures) (c .if1 .taken) }
@@ -25,9 +22,6 @@ get16s-requires : tie.Need-get16s-requires
 get16s-requires c κs =
     let v = copying _ _ (sym (c .before .before .before .copy-refusal .ensures) ∙ c .before .before .if1 .left) in
     rw (← c .before .layout .ensures) at (v .fits)
-
-same-length : tie.Need-same-length
-same-length c = search needs
 
 returns-2 : tie.Need-returns-2
 unfolding copyAnswer copyRings
@@ -41,4 +35,4 @@ returns-2 c =
 pub copy-rings-spec : {M : Type 1} → statement M
 copy-rings-spec =
     tie.close
-    (tie.spec copy-refusal-requires returns layout-requires get16s-requires same-length returns-2)
+    (tie.spec (λ c κs. search needs) returns layout-requires get16s-requires (λ c. search needs) returns-2)

@@ -10,12 +10,6 @@ use borrow.Author.Needs.{needs}
 use Rattle.job.proofs.part.Statement.{statement}
 use Rattle.job.proofs.part.Tie as tie
 
-read-refusal-requires : tie.Need-read-refusal-requires
-read-refusal-requires c κs = search needs
-
-slice-aggregate-result : tie.Need-slice-aggregate-result
-slice-aggregate-result c = search needs
-
 returns : tie.Need-returns
 unfolding partAnswer
 returns c = record { stretch = says-no (partIn (now (c .before .before .before .before .args .file))) (λ k. []) (c .before .before .read-refusal .ensures) (c .before .if1 .taken) }
@@ -33,10 +27,4 @@ returns-2 c = record { stretch = says-yes (partIn (now (c .before .before .befor
 pub part-spec : {M : Type 1} → statement M
 part-spec =
     tie.close
-    (tie.spec
-    read-refusal-requires
-    slice-aggregate-result
-    returns
-    settings-in-requires
-    part-in-requires
-    returns-2)
+    (tie.spec (λ c κs. search needs) (λ c. search needs) returns settings-in-requires part-in-requires returns-2)

@@ -6,19 +6,13 @@ use borrow.Author.Needs.{needs}
 use Rattle.job.proofs.read.Statement.{statement}
 use Rattle.job.proofs.read.Tie as tie
 
-read-refusal-requires : tie.Need-read-refusal-requires
-read-refusal-requires c κs = search needs
-
 returns : tie.Need-returns
 unfolding readAnswer
 returns c = record { answer = says-no _ Refused (c .before .read-refusal .ensures) (c .if1 .taken) }
-
-layout-requires : tie.Need-layout-requires
-layout-requires c κs = search needs
 
 returns-2 : tie.Need-returns-2
 unfolding readAnswer
 returns-2 c = record { answer = says-yes _ Refused (c .before .before .read-refusal .ensures) (c .before .if1 .left) (ap Job (c .layout .ensures)) }
 
 pub read-spec : {M : Type 1} → statement M
-read-spec = tie.close (tie.spec read-refusal-requires returns layout-requires returns-2)
+read-spec = tie.close (tie.spec (λ c κs. search needs) returns (λ c κs. search needs) returns-2)

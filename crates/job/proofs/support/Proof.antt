@@ -9,12 +9,6 @@ use borrow.Author.Needs.{needs}
 use Rattle.job.proofs.support.Statement.{statement}
 use Rattle.job.proofs.support.Tie as tie
 
-read-refusal-requires : tie.Need-read-refusal-requires
-read-refusal-requires c κs = search needs
-
-slice-aggregate-result : tie.Need-slice-aggregate-result
-slice-aggregate-result c = search needs
-
 returns : tie.Need-returns
 unfolding supportAnswer
 returns c = record { stretch = says-no (supportIn (now (c .before .before .before .before .args .file))) (λ k. []) (c .before .before .read-refusal .ensures) (c .before .if1 .taken) }
@@ -35,11 +29,4 @@ returns-2 c = record { stretch = says-yes (supportIn (now (c .before .before .be
 pub support-spec : {M : Type 1} → statement M
 support-spec =
     tie.close
-    (tie.spec
-    read-refusal-requires
-    slice-aggregate-result
-    returns
-    settings-in-requires
-    stored-in-requires
-    support-in-requires
-    returns-2)
+    (tie.spec (λ c κs. search needs) (λ c. search needs) returns settings-in-requires stored-in-requires support-in-requires returns-2)

@@ -9,9 +9,6 @@ use borrow.Author.Needs.{needs}
 use Rattle.job.proofs.write.Statement.{statement}
 use Rattle.job.proofs.write.Tie as tie
 
-write-refusal-requires : tie.Need-write-refusal-requires
-write-refusal-requires c κs = search needs
-
 returns : tie.Need-returns
 unfolding writeAnswer writeTo
 returns c = record { answer = says-no _ Refused (c .before .write-refusal .ensures) (c .if1 .taken); destination = says-no _ (λ k. now (c .before .before .before .before .before .before .args .out)) (c .before .write-refusal .ensures) (c .if1 .taken) }
@@ -25,9 +22,6 @@ stored-rows-requires c κs = writable-exactly _ _ .0 (sym (c .before .before .be
 job-end-requires : tie.Need-job-end-requires
 job-end-requires c κs = (writable-exactly _ _ .0 (sym (c .before .before .before .before .before .before .write-refusal .ensures) ∙ c .before .before .before .before .before .if1 .left) .0 .settings, c .stored-rows .ensures .1)
 
-same-length : tie.Need-same-length
-same-length c = search needs
-
 returns-2 : tie.Need-returns-2
 unfolding writeAnswer writeTo fileLength
 returns-2 c = record { answer = says-yes _ Refused (c .before .before .before .before .before .before .before .write-refusal .ensures) (c .before .before .before .before .before .before .if1 .left) (ap Length (c .job-end .ensures .0 ∙ ap (jobEnd (c .before .before .before .before .before .before .before .before .before .before .before .before .args .s)) (c .before .stored-rows .ensures .0))); destination = says-yes _ (λ k. now (c .before .before .before .before .before .before .before .before .before .before .before .before .args .out)) (c .before .before .before .before .before .before .before .write-refusal .ensures) (c .before .before .before .before .before .before .if1 .left) (c .before .before .before .before .put-job .ensures) }
@@ -35,11 +29,4 @@ returns-2 c = record { answer = says-yes _ Refused (c .before .before .before .b
 pub write-spec : {M : Type 1} → statement M
 write-spec =
     tie.close
-    (tie.spec
-    write-refusal-requires
-    returns
-    put-job-requires
-    stored-rows-requires
-    job-end-requires
-    same-length
-    returns-2)
+    (tie.spec (λ c κs. search needs) returns put-job-requires stored-rows-requires job-end-requires (λ c. search needs) returns-2)

@@ -15,42 +15,14 @@ abbrev μ-loop : tie.MeasureT-loop
 loop-holds : tie.Need-loop-holds Inv-loop μ-loop
 loop-holds c = (omega arith, refl)
 
-cast-rings : tie.Need-cast-rings Inv-loop μ-loop
-cast-rings c = omega arith
-
-mul-rings : tie.Need-mul-rings Inv-loop μ-loop
-mul-rings c = omega arith
-
-slice-write-rings : tie.Need-slice-write-rings Inv-loop μ-loop
-slice-write-rings c = omega arith
-
-add-i : tie.Need-add-i Inv-loop μ-loop
-add-i c = omega arith
-
-loop-less : tie.Need-loop-less Inv-loop μ-loop
-loop-less c = omega arith
-
 loop-again : tie.Need-loop-again Inv-loop μ-loop
 loop-again c = (omega arith, simp length-set (c .before .loop .inv .1))
 
 same-length : tie.Need-same-length Inv-loop μ-loop
 same-length c = c .before .loop .inv .1
 
-returns : tie.Need-returns Inv-loop μ-loop
-returns c = search needs
-
 pub fill-rings-spec : {M : Type 1} → statement M
 fill-rings-spec =
     tie.close
-    (tie.spec
-    Inv-loop
-    μ-loop
-    loop-holds
-    cast-rings
-    mul-rings
-    slice-write-rings
-    add-i
-    loop-less
-    loop-again
-    same-length
-    returns)
+    (tie.spec Inv-loop μ-loop loop-holds (λ c. omega arith) (λ c. omega arith) (λ c. omega arith) (λ c. omega arith) (λ c. omega arith)
+    loop-again same-length (λ c. search needs))

@@ -3,17 +3,8 @@ use borrow.Author.Needs.{needs}
 use Rattle.kitegimlet.proofs.kg_check.Statement.{statement}
 use Rattle.kitegimlet.proofs.kg_check.Tie as tie
 
-settings-requires : tie.Need-settings-requires
-settings-requires c κs = search needs
-
-judge-requires : tie.Need-judge-requires
-judge-requires c κs = search needs
-
-pack-judged-requires : tie.Need-pack-judged-requires
-pack-judged-requires c κs = search needs
-
 returns : tie.Need-returns
 returns c = check-packed _ _ _ _ _ _ _ (c .before .before .settings .ensures) (c .before .judge .ensures) (c .pack-judged .ensures)
 
 pub kg-check-spec : {M : Type 1} → statement M
-kg-check-spec = tie.close (tie.spec settings-requires judge-requires pack-judged-requires returns)
+kg-check-spec = tie.close (tie.spec (λ c κs. search needs) (λ c κs. search needs) (λ c κs. search needs) returns)

@@ -3,14 +3,8 @@ use borrow.Author.Needs.{needs}
 use Rattle.kitegimlet.proofs.kg_reach.Statement.{statement}
 use Rattle.kitegimlet.proofs.kg_reach.Tie as tie
 
-reach-requires : tie.Need-reach-requires
-reach-requires c κs = search needs
-
-pack-reached-requires : tie.Need-pack-reached-requires
-pack-reached-requires c κs = search needs
-
 returns : tie.Need-returns
 returns c = reach-packed _ _ _ _ (c .before .reach .ensures) (c .pack-reached .ensures)
 
 pub kg-reach-spec : {M : Type 1} → statement M
-kg-reach-spec = tie.close (tie.spec reach-requires pack-reached-requires returns)
+kg-reach-spec = tie.close (tie.spec (λ c κs. search needs) (λ c κs. search needs) returns)

@@ -3,22 +3,9 @@ use native.Mathlib.Omega.{arith}
 use borrow.Author.Needs.{needs}
 use Rattle.kitegimlet.proofs.kg_support.Statement.{statement}
 use Rattle.kitegimlet.proofs.kg_support.Tie as tie
-use Rattle.kitegimlet.proofs.kg_support.Reads as reads
-use Rattle.kitegimlet.proofs.kg_support.Lts as lts
-use Rattle.job.proofs.read.Reads as read-reads
-use Rattle.answers.proofs.support_stretch.Reads as support-stretch-reads
-
-read-requires : tie.Need-read-requires
-read-requires c κs = search needs
-
-enum-known-l : tie.Need-enum-known-l
-enum-known-l c = search needs
 
 support-stretch-requires : tie.Need-support-stretch-requires
 support-stretch-requires c κs = support-room (c .before .before .before .before .before .args .file .now) (c .before .before .before .read .result) (c .before .before .before .read .ensures) (c .before .l .given .0 .0) (c .before .l .given .1)
-
-enum-told : tie.Need-enum-told
-enum-told c = search needs
 
 returns : tie.Need-returns
 returns c = support-yes (c .before .before .before .before .before .before .args .file .now) (c .before .before .before .before .read .result) (c .before .before .before .before .read .ensures) (c .before .before .l .given .0 .0) (c .support-stretch .result) (c .before .before .l .given .1) (c .support-stretch .ensures)
@@ -29,4 +16,4 @@ returns-2 c = support-no (c .before .before .before .before .args .file .now) (c
 pub kg-support-spec : {M : Type 1} → statement M
 kg-support-spec =
     tie.close
-    (tie.spec read-requires enum-known-l support-stretch-requires enum-told returns returns-2)
+    (tie.spec (λ c κs. search needs) (λ c. search needs) support-stretch-requires (λ c. search needs) returns returns-2)

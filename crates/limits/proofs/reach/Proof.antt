@@ -3,13 +3,6 @@ use native.Mathlib.Omega.{arith}
 use borrow.Author.Needs.{needs}
 use Rattle.limits.proofs.reach.Statement.{statement}
 use Rattle.limits.proofs.reach.Tie as tie
-use Rattle.limits.proofs.reach.Reads as reads
-use Rattle.limits.proofs.reach.Lts as lts
-use Rattle.limits.proofs.reach_of.Reads as reach-of-reads
-use Rattle.limits.proofs.reach_refusal.Reads as reach-refusal-reads
-
-reach-refusal-requires : tie.Need-reach-refusal-requires
-reach-refusal-requires c κs = search needs
 
 returns : tie.Need-returns
 returns c = record { answer = reach-no (c .before .before .args .pitch) (c .before .before .args .overhang) (c .before .reach-refusal .result) (c .before .reach-refusal .ensures) (c .if1 .taken) }
@@ -21,4 +14,4 @@ returns-2 : tie.Need-returns-2
 returns-2 c = record { answer = reach-yes (c .before .before .before .args .pitch) (c .before .before .before .args .overhang) (c .before .before .reach-refusal .result) (c .reach-of .result) (c .before .before .reach-refusal .ensures) (c .before .if1 .left) (c .reach-of .ensures) }
 
 pub reach-spec : {M : Type 1} → statement M
-reach-spec = tie.close (tie.spec reach-refusal-requires returns reach-of-requires returns-2)
+reach-spec = tie.close (tie.spec (λ c κs. search needs) returns reach-of-requires returns-2)

@@ -5,11 +5,6 @@ use native.Mathlib.Omega.{arith}
 use borrow.Author.Needs.{needs}
 use Rattle.limits.proofs.reach_of.Statement.{statement}
 use Rattle.limits.proofs.reach_of.Tie as tie
-use Rattle.limits.proofs.reach_of.Reads as reads
-use Rattle.limits.proofs.reach_of.Lts as lts
-
-div-t3 : tie.Need-div-t3
-div-t3 c = search needs
 
 cast-t4 : tie.Need-cast-t4
 cast-t4 c = omega (arith, div-le-self (c .before .before .args .overhang .0) (c .before .before .args .pitch .0))
@@ -19,4 +14,4 @@ unfolding rule.reachOf
 returns c = cc
 
 pub reach-of-spec : {M : Type 1} → statement M
-reach-of-spec = tie.close (tie.spec div-t3 cast-t4 returns)
+reach-of-spec = tie.close (tie.spec (λ c. search needs) cast-t4 returns)

@@ -7,13 +7,6 @@ use native.Mathlib.Omega.{arith}
 use borrow.Author.Needs.{needs}
 use Rattle.limits.proofs.reach_refusal.Statement.{statement}
 use Rattle.limits.proofs.reach_refusal.Tie as tie
-use Rattle.limits.proofs.reach_refusal.Reads as reads
-use Rattle.limits.proofs.reach_refusal.Lts as lts
-use Rattle.limits.proofs.reach_of.Reads as reach-of-reads
-use Rattle.limits.proofs.settable.Reads as settable-reads
-
-settable-requires : tie.Need-settable-requires
-settable-requires c κs = search needs
 
 returns : tie.Need-returns
 unfolding reachCases
@@ -30,4 +23,4 @@ returns-3 c = refused-0 (c .before .before .before .before .before .args .pitch)
 
 pub reach-refusal-spec : {M : Type 1} → statement M
 reach-refusal-spec =
-    tie.close (tie.spec settable-requires returns reach-of-requires returns-2 returns-3)
+    tie.close (tie.spec (λ c κs. search needs) returns reach-of-requires returns-2 returns-3)

@@ -3,15 +3,10 @@ use native.Mathlib.Omega.{arith}
 use borrow.Author.Needs.{needs}
 use Rattle.limits.proofs.row_bytes.Statement.{statement}
 use Rattle.limits.proofs.row_bytes.Tie as tie
-use Rattle.limits.proofs.row_bytes.Reads as reads
-use Rattle.limits.proofs.row_bytes.Lts as lts
-
-add-result : tie.Need-add-result
-add-result c = search needs
 
 returns : tie.Need-returns
 unfolding rowBytes
 returns c = (omega arith, omega arith)
 
 pub row-bytes-spec : {M : Type 1} → statement M
-row-bytes-spec = tie.close (tie.spec add-result returns)
+row-bytes-spec = tie.close (tie.spec (λ c. search needs) returns)

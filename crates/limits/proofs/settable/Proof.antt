@@ -5,15 +5,6 @@ use native.Mathlib.Omega.{arith}
 use borrow.Author.Needs.{needs}
 use Rattle.limits.proofs.settable.Statement.{statement}
 use Rattle.limits.proofs.settable.Tie as tie
-use Rattle.limits.proofs.settable.Reads as reads
-use Rattle.limits.proofs.settable.Lts as lts
-use Rattle.limits.proofs.within.Reads as within-reads
-
-cast-within : tie.Need-cast-within
-cast-within c = search needs
-
-within-requires : tie.Need-within-requires
-within-requires c κs = search needs
 
 returns : tie.Need-returns
 unfolding rule.settable
@@ -24,4 +15,4 @@ unfolding rule.settable
 returns-2 c = simp (sym (c .before .before .within .ensures) ∙ not-false _ (c .before .if1 .left))
 
 pub settable-spec : {M : Type 1} → statement M
-settable-spec = tie.close (tie.spec cast-within within-requires returns returns-2)
+settable-spec = tie.close (tie.spec (λ c. search needs) (λ c κs. search needs) returns returns-2)

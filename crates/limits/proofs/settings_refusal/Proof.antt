@@ -5,20 +5,10 @@ use native.Mathlib.Omega.{arith}
 use borrow.Author.Needs.{needs}
 use Rattle.limits.proofs.settings_refusal.Statement.{statement}
 use Rattle.limits.proofs.settings_refusal.Tie as tie
-use Rattle.limits.proofs.settings_refusal.Reads as reads
-use Rattle.limits.proofs.settings_refusal.Lts as lts
-use Rattle.limits.proofs.reach_refusal.Reads as reach-refusal-reads
-use Rattle.limits.proofs.sized.Reads as sized-reads
-
-sized-requires : tie.Need-sized-requires
-sized-requires c κs = search needs
 
 returns : tie.Need-returns
 unfolding settingCases
 returns c = simp (sym (c .before .sized .ensures) ∙ not-true _ (c .if1 .taken))
-
-reach-refusal-requires : tie.Need-reach-refusal-requires
-reach-refusal-requires c κs = search needs
 
 returns-2 : tie.Need-returns-2
 unfolding settingCases
@@ -26,4 +16,4 @@ returns-2 c = simp (sym (c .before .before .before .before .sized .ensures) ∙ 
 
 pub settings-refusal-spec : {M : Type 1} → statement M
 settings-refusal-spec =
-    tie.close (tie.spec sized-requires returns reach-refusal-requires returns-2)
+    tie.close (tie.spec (λ c κs. search needs) returns (λ c κs. search needs) returns-2)

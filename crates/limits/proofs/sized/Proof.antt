@@ -5,26 +5,14 @@ use native.Mathlib.Omega.{arith}
 use borrow.Author.Needs.{needs}
 use Rattle.limits.proofs.sized.Statement.{statement}
 use Rattle.limits.proofs.sized.Tie as tie
-use Rattle.limits.proofs.sized.Reads as reads
-use Rattle.limits.proofs.sized.Lts as lts
-use Rattle.limits.proofs.within.Reads as within-reads
-
-within-requires : tie.Need-within-requires
-within-requires c κs = search needs
 
 returns : tie.Need-returns
 unfolding images.sized
 returns c = simp (sym (c .before .within .ensures) ∙ not-true _ (c .if1 .taken))
 
-within-requires-2 : tie.Need-within-requires-2
-within-requires-2 c κs = search needs
-
 returns-2 : tie.Need-returns-2
 unfolding images.sized
 returns-2 c = simp (sym (c .before .before .before .within .ensures) ∙ not-false _ (c .before .before .if1 .left), sym (c .before .within2 .ensures) ∙ not-true _ (c .if2 .taken))
-
-within-requires-3 : tie.Need-within-requires-3
-within-requires-3 c κs = search needs
 
 returns-3 : tie.Need-returns-3
 unfolding images.sized
@@ -33,4 +21,4 @@ returns-3 c = simp (sym (c .before .before .before .before .within .ensures) ∙
 pub sized-spec : {M : Type 1} → statement M
 sized-spec =
     tie.close
-    (tie.spec within-requires returns within-requires-2 returns-2 within-requires-3 returns-3)
+    (tie.spec (λ c κs. search needs) returns (λ c κs. search needs) returns-2 (λ c κs. search needs) returns-3)

@@ -5,8 +5,6 @@ use native.Mathlib.Omega.{arith}
 use borrow.Author.Needs.{needs}
 use Rattle.limits.proofs.within.Statement.{statement}
 use Rattle.limits.proofs.within.Tie as tie
-use Rattle.limits.proofs.within.Reads as reads
-use Rattle.limits.proofs.within.Lts as lts
 
 returns : tie.Need-returns
 unfolding images.within

@@ -5,12 +5,6 @@ use native.Mathlib.Omega.{arith}
 use borrow.Author.Needs.{needs}
 use Rattle.lines.proofs.excused_above.Statement.{statement}
 use Rattle.lines.proofs.excused_above.Tie as tie
-use Rattle.lines.proofs.excused_above.Reads as reads
-use Rattle.lines.proofs.excused_above.Lts as lts
-use Rattle.lines.proofs.counts.excused.Reads as excused-reads
-
-add-if1 : tie.Need-add-if1
-add-if1 c = search needs
 
 excused-requires : tie.Need-excused-requires
 excused-requires c κs = c .before .before .before .pre .1 (c .if1 .taken)
@@ -22,4 +16,4 @@ returns-2 : tie.Need-returns-2
 returns-2 c = (excused-none (c .before .before .before .args .s) (ringAt (c .before .before .before .args .s .w) (c .before .before .before .args .s .h) (c .before .before .before .args .rings .now)) (c .before .before .before .args .i) (c .if1 .left), omega arith)
 
 pub excused-above-spec : {M : Type 1} → statement M
-excused-above-spec = tie.close (tie.spec add-if1 excused-requires returns returns-2)
+excused-above-spec = tie.close (tie.spec (λ c. search needs) excused-requires returns returns-2)

@@ -5,9 +5,6 @@ use native.Mathlib.Omega.{arith}
 use borrow.Author.Needs.{needs}
 use Rattle.lines.proofs.layer_lines.Statement.{statement}
 use Rattle.lines.proofs.layer_lines.Tie as tie
-use Rattle.lines.proofs.layer_lines.Reads as reads
-use Rattle.lines.proofs.layer_lines.Lts as lts
-use Rattle.lines.proofs.counted_line.Reads as counted-line-reads
 
 abbrev Inv-loop : tie.InvT-loop
 Inv-loop out₀ start s part support rings n at₀ k₀ out at k = (k ≤ n) × Going s part support rings out₀ out start at k
@@ -27,12 +24,6 @@ sub-counted-line-2 c = omega (arith, c .before .loop-test .taken)
 counted-line-requires : tie.Need-counted-line-requires Inv-loop μ-loop
 counted-line-requires c κs = (c .before .before .before .before .before .before .before .pre .0, (omega (arith, c .before .loop-test .taken), going-room (c .before .before .before .before .before .before .before .args .s) (c .before .before .before .before .before .before .before .args .part .now) (c .before .before .before .before .before .before .before .args .support .now) (c .before .before .before .before .before .before .before .args .rings .now) (c .before .before .before .before .before .before .before .args .out .now) (c .before .before .loop .out) (c .before .before .before .before .before .before .before .args .start) (c .before .before .loop .at) (c .before .before .loop .k) (c .before .loop-test .taken) (c .before .before .before .before .before .before .before .pre .1) (c .before .before .loop .inv .1)))
 
-add-k : tie.Need-add-k Inv-loop μ-loop
-add-k c = search needs
-
-loop-less : tie.Need-loop-less Inv-loop μ-loop
-loop-less c = search needs
-
 loop-again : tie.Need-loop-again Inv-loop μ-loop
 loop-again c = (omega arith, going-on (c .before .before .before .before .before .before .before .before .before .before .args .s) (c .before .before .before .before .before .before .before .before .before .before .args .part .now) (c .before .before .before .before .before .before .before .before .before .before .args .support .now) (c .before .before .before .before .before .before .before .before .before .before .args .rings .now) (c .before .before .before .before .before .before .before .before .before .before .args .out .now) (c .before .before .before .before .before .loop .out) (c .before .before .counted-line .last .0) (c .before .before .before .before .before .before .before .before .before .before .args .start) (c .before .before .before .before .before .loop .at) (c .before .before .counted-line .result) (c .before .before .before .before .before .loop .k) (c .before .before .before .before .before .before .before .before .before .before .pre .1) (c .before .before .before .before .loop-test .taken) (c .before .before .before .before .before .loop .inv .1) (c .before .before .counted-line .ensures))
 
@@ -45,15 +36,5 @@ returns c = going-end (c .before .before .before .before .before .before .args .
 pub layer-lines-spec : {M : Type 1} → statement M
 layer-lines-spec =
     tie.close
-    (tie.spec
-    Inv-loop
-    μ-loop
-    loop-holds
-    sub-counted-line
-    sub-counted-line-2
-    counted-line-requires
-    add-k
-    loop-less
-    loop-again
-    same-length
-    returns)
+    (tie.spec Inv-loop μ-loop loop-holds sub-counted-line sub-counted-line-2 counted-line-requires (λ c. search needs) (λ c. search needs)
+    loop-again same-length returns)

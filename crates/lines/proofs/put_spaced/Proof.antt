@@ -5,15 +5,9 @@ use native.Mathlib.Omega.{arith}
 use borrow.Author.Needs.{needs}
 use Rattle.lines.proofs.put_spaced.Statement.{statement}
 use Rattle.lines.proofs.put_spaced.Tie as tie
-use Rattle.lines.proofs.put_spaced.Reads as reads
-use Rattle.lines.proofs.put_spaced.Lts as lts
-use Rattle.lines.proofs.put_decimal.Reads as put-decimal-reads
 
 slice-write-out : tie.Need-slice-write-out
 slice-write-out c = space-room (c .before .args .out .now) (c .before .args .at) (c .before .args .x) (c .before .pre)
-
-add-put-decimal : tie.Need-add-put-decimal
-add-put-decimal c = search needs
 
 put-decimal-requires : tie.Need-put-decimal-requires
 put-decimal-requires c κs = number-room (c .before .before .args .out .now) (c .before .before .args .at) (c .before .before .args .x) (c .before .before .pre)
@@ -26,4 +20,4 @@ returns c = spaced-done (c .before .before .before .before .before .args .out .n
 
 pub put-spaced-spec : {M : Type 1} → statement M
 put-spaced-spec =
-    tie.close (tie.spec slice-write-out add-put-decimal put-decimal-requires same-length returns)
+    tie.close (tie.spec slice-write-out (λ c. search needs) put-decimal-requires same-length returns)

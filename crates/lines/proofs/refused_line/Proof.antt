@@ -4,14 +4,6 @@ use native.Mathlib.Omega.{arith}
 use borrow.Author.Needs.{needs}
 use Rattle.lines.proofs.refused_line.Statement.{statement}
 use Rattle.lines.proofs.refused_line.Tie as tie
-use Rattle.lines.proofs.refused_line.Reads as reads
-use Rattle.lines.proofs.refused_line.Lts as lts
-use Rattle.lines.proofs.put_byte.Reads as put-byte-reads
-use Rattle.lines.proofs.put_spaced.Reads as put-spaced-reads
-use Rattle.lines.proofs.put_word.Reads as put-word-reads
-
-slice-aggregate-put-word : tie.Need-slice-aggregate-put-word
-slice-aggregate-put-word c = search needs
 
 put-word-requires : tie.Need-put-word-requires
 put-word-requires c κs = refused-1 (c .before .before .before .args .out .now) (c .before .before .before .args .k) (c .before .before .before .pre)
@@ -22,19 +14,10 @@ put-spaced-requires c κs = wrote-room (wrote-first (c .before .before .before .
 put-byte-requires : tie.Need-put-byte-requires
 put-byte-requires c κs = wrote-room (wrote-more (wrote-first (c .before .before .before .before .before .before .before .before .before .before .before .args .out .now) 0 (c .before .before .before .before .before .before .before .put-word .last .0) (c .before .before .before .before .before .before .before .put-word .result) refusedWord (refused-1 (c .before .before .before .before .before .before .before .before .before .before .before .args .out .now) (c .before .before .before .before .before .before .before .before .before .before .before .args .k) (c .before .before .before .before .before .before .before .before .before .before .before .pre)) (c .before .before .before .before .before .before .before .put-word .ensures)) (c .before .before .before .put-spaced .last .0) (c .before .before .before .put-spaced .result) (spaced (c .before .before .before .before .before .before .before .before .before .before .before .args .k)) (refused-2 (c .before .before .before .before .before .before .before .before .before .before .before .args .out .now) (c .before .before .before .before .before .before .before .before .before .before .before .args .k) (c .before .before .before .before .before .before .before .before .before .before .before .pre)) (c .before .before .before .put-spaced .ensures)) newline (refused-3 (c .before .before .before .before .before .before .before .before .before .before .before .args .out .now) (c .before .before .before .before .before .before .before .before .before .before .before .args .k) (c .before .before .before .before .before .before .before .before .before .before .before .pre))
 
-same-length : tie.Need-same-length
-same-length c = search needs
-
 returns : tie.Need-returns
 returns c = refused-done (c .before .before .before .before .before .before .before .before .before .before .before .before .before .before .args .out .now) (c .before .before .before .before .before .before .before .before .before .before .before .before .before .before .args .k) (c .before .before .before .before .before .before .before .before .before .before .before .before .before .before .pre) (wrote-more (wrote-more (wrote-first (c .before .before .before .before .before .before .before .before .before .before .before .before .before .before .args .out .now) 0 (c .before .before .before .before .before .before .before .before .before .before .put-word .last .0) (c .before .before .before .before .before .before .before .before .before .before .put-word .result) refusedWord (refused-1 (c .before .before .before .before .before .before .before .before .before .before .before .before .before .before .args .out .now) (c .before .before .before .before .before .before .before .before .before .before .before .before .before .before .args .k) (c .before .before .before .before .before .before .before .before .before .before .before .before .before .before .pre)) (c .before .before .before .before .before .before .before .before .before .before .put-word .ensures)) (c .before .before .before .before .before .before .put-spaced .last .0) (c .before .before .before .before .before .before .put-spaced .result) (spaced (c .before .before .before .before .before .before .before .before .before .before .before .before .before .before .args .k)) (refused-2 (c .before .before .before .before .before .before .before .before .before .before .before .before .before .before .args .out .now) (c .before .before .before .before .before .before .before .before .before .before .before .before .before .before .args .k) (c .before .before .before .before .before .before .before .before .before .before .before .before .before .before .pre)) (c .before .before .before .before .before .before .put-spaced .ensures)) (c .before .before .put-byte .last .0) (c .before .before .put-byte .result) newline (refused-3 (c .before .before .before .before .before .before .before .before .before .before .before .before .before .before .args .out .now) (c .before .before .before .before .before .before .before .before .before .before .before .before .before .before .args .k) (c .before .before .before .before .before .before .before .before .before .before .before .before .before .before .pre)) (c .before .before .put-byte .ensures))
 
 pub refused-line-spec : {M : Type 1} → statement M
 refused-line-spec =
     tie.close
-    (tie.spec
-    slice-aggregate-put-word
-    put-word-requires
-    put-spaced-requires
-    put-byte-requires
-    same-length
-    returns)
+    (tie.spec (λ c. search needs) put-word-requires put-spaced-requires put-byte-requires (λ c. search needs) returns)

@@ -10,33 +10,6 @@ use borrow.Author.Needs.{needs}
 use Rattle.job.proofs.writing.put_head.Statement.{statement}
 use Rattle.job.proofs.writing.put_head.Tie as tie
 
-put32-requires : tie.Need-put32-requires
-put32-requires c κs = search needs
-
-put16-requires : tie.Need-put16-requires
-put16-requires c κs = search needs
-
-put16-requires-2 : tie.Need-put16-requires-2
-put16-requires-2 c κs = search needs
-
-put16-requires-3 : tie.Need-put16-requires-3
-put16-requires-3 c κs = search needs
-
-cast-put16 : tie.Need-cast-put16
-cast-put16 c = search needs
-
-put16-requires-4 : tie.Need-put16-requires-4
-put16-requires-4 c κs = search needs
-
-cast-put16-2 : tie.Need-cast-put16-2
-cast-put16-2 c = search needs
-
-put16-requires-5 : tie.Need-put16-requires-5
-put16-requires-5 c κs = search needs
-
-same-length : tie.Need-same-length
-same-length c = search needs
-
 returns : tie.Need-returns
 returns c =
     let d : List ℕ = now (c .before .before .before .before .before .before .before .before .before .before .before .before .before .before .before .before .before .before .before .before .before .before .before .before .before .before .before .before .before .args .d) in
@@ -51,14 +24,5 @@ returns c =
 pub put-head-spec : {M : Type 1} → statement M
 put-head-spec =
     tie.close
-    (tie.spec
-    put32-requires
-    put16-requires
-    put16-requires-2
-    put16-requires-3
-    cast-put16
-    put16-requires-4
-    cast-put16-2
-    put16-requires-5
-    same-length
-    returns)
+    (tie.spec (λ c κs. search needs) (λ c κs. search needs) (λ c κs. search needs) (λ c κs. search needs) (λ c. search needs)
+    (λ c κs. search needs) (λ c. search needs) (λ c κs. search needs) (λ c. search needs) returns)

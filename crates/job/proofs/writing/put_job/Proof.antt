@@ -9,23 +9,11 @@ use Rattle.job.proofs.writing.put_job.Tie as tie
 put-head-requires : tie.Need-put-head-requires
 put-head-requires c κs = the-room _ _ _ _ (c .before .before .before .before .before .pre .0) _ (c .before .before .before .before .before .pre .1) .for-head
 
-rows-of-requires : tie.Need-rows-of-requires
-rows-of-requires c κs = search needs
-
 put-rows-requires : tie.Need-put-rows-requires
 put-rows-requires c κs = let r = the-room _ _ _ _ (c .before .before .before .before .before .before .before .before .before .before .pre .0) _ (c .before .before .before .before .before .before .before .before .before .before .pre .1) in omega (arith, r .for-part, c .before .before .before .before .put-head .kept .0)
 
-stored-rows-requires : tie.Need-stored-rows-requires
-stored-rows-requires c κs = search needs
-
-part-end-requires : tie.Need-part-end-requires
-part-end-requires c κs = search needs
-
 put-rows-requires-2 : tie.Need-put-rows-requires-2
 put-rows-requires-2 c κs = let r = the-room _ _ _ _ (c .before .before .before .before .before .before .before .before .before .before .before .before .before .before .before .before .pre .0) _ (c .before .before .before .before .before .before .before .before .before .before .before .before .before .before .before .before .pre .1) in omega (arith, r .for-support, c .part-end .ensures .0, c .before .before .before .before .before .put-rows .kept .0, c .before .before .before .before .before .before .before .before .before .before .put-head .kept .0)
-
-support-end-requires : tie.Need-support-end-requires
-support-end-requires c κs = search needs
 
 put-rings-requires : tie.Need-put-rings-requires
 put-rings-requires c κs =
@@ -33,23 +21,11 @@ put-rings-requires c κs =
     let e = c .support-end .ensures .0 ∙ ap (supportEnd (c .before .before .before .before .before .before .before .before .before .before .before .before .before .before .before .before .before .before .before .before .before .args .s)) (c .before .before .before .before .before .before .before .stored-rows .ensures .0) in
     omega (arith, r .for-rings, c .before .before .before .before .put-rows2 .kept .0, c .before .before .before .before .before .before .before .before .before .before .put-rows .kept .0, c .before .before .before .before .before .before .before .before .before .before .before .before .before .before .before .put-head .kept .0)
 
-same-length : tie.Need-same-length
-same-length c = search needs
-
 returns : tie.Need-returns
 returns c = sections _ _ _ _ (c .before .before .before .before .before .before .before .before .before .before .before .before .before .before .before .before .before .before .before .before .before .before .before .before .pre .0) _ _ _ _ _ _ _ _ _ (c .before .before .before .before .before .before .before .before .before .before .before .before .before .before .before .before .before .before .before .before .before .before .before .before .pre .1) (c .before .before .before .before .before .before .before .before .before .before .before .before .before .before .before .before .before .before .put-head .ensures) (c .before .before .before .before .before .before .before .before .before .before .before .before .before .before .rows-of .ensures .0) (c .before .before .before .before .before .before .before .before .before .before .before .before .before .put-rows .ensures) (c .before .before .before .before .before .before .before .before .before .before .stored-rows .ensures .0) (c .before .before .before .before .before .before .before .before .part-end .ensures .0) (c .before .before .before .before .before .before .before .put-rows2 .ensures) (c .before .before .before .support-end .ensures .0) (c .before .before .put-rings .ensures)
 
 pub put-job-spec : {M : Type 1} → statement M
 put-job-spec =
     tie.close
-    (tie.spec
-    put-head-requires
-    rows-of-requires
-    put-rows-requires
-    stored-rows-requires
-    part-end-requires
-    put-rows-requires-2
-    support-end-requires
-    put-rings-requires
-    same-length
-    returns)
+    (tie.spec put-head-requires (λ c κs. search needs) put-rows-requires (λ c κs. search needs) (λ c κs. search needs) put-rows-requires-2
+    (λ c κs. search needs) put-rings-requires (λ c. search needs) returns)

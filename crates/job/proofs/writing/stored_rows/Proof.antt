@@ -5,9 +5,6 @@ use borrow.Author.Needs.{needs}
 use Rattle.job.proofs.writing.stored_rows.Statement.{statement}
 use Rattle.job.proofs.writing.stored_rows.Tie as tie
 
-rows-of-requires : tie.Need-rows-of-requires
-rows-of-requires c κs = search needs
-
 returns : tie.Need-returns
 unfolding storedRows
 returns c = (simp (eq-eqb _ _ (c .if1 .taken)), omega arith)
@@ -17,4 +14,4 @@ unfolding storedRows
 returns-2 c = (simp (ne-eqb _ _ (c .before .if1 .left)) (c .rows-of .ensures .0), c .rows-of .ensures .1)
 
 pub stored-rows-spec : {M : Type 1} → statement M
-stored-rows-spec = tie.close (tie.spec rows-of-requires returns returns-2)
+stored-rows-spec = tie.close (tie.spec (λ c κs. search needs) returns returns-2)

@@ -9,9 +9,6 @@ use native.Mathlib.Omega.{arith}
 use borrow.Author.Needs.{needs}
 use Rattle.lines.proofs.counts.excused.Statement.{statement}
 use Rattle.lines.proofs.counts.excused.Tie as tie
-use Rattle.lines.proofs.counts.excused.Reads as reads
-use Rattle.lines.proofs.counts.excused.Lts as lts
-use Rattle.lines.proofs.counts.one.Reads as one-reads
 
 abbrev Inv-loop : tie.InvT-loop
 Inv-loop rings w h i all start n₀ p₀ n p = (p ≤ all) × (n ≡ count p (planning.excused (ringAt w h rings) i))
@@ -38,17 +35,11 @@ mul-one c = omega (arith, ring-start (c .before .before .before .args .w) (c .be
 shared-slice-read-one : tie.Need-shared-slice-read-one Inv-loop μ-loop
 shared-slice-read-one c = ring-in (c .before .before .before .before .args .w) (c .before .before .before .before .args .h) (c .before .before .before .before .args .i) (c .before .before .before .before .pre .0) (c .before .before .before .before .pre .1 .0) _ (c .before .before .loop .p) (c .before .before .before .before .pre .1 .1 .1) (c .before .loop-test .taken)
 
-one-requires : tie.Need-one-requires Inv-loop μ-loop
-one-requires c κs = search needs
-
 add-n : tie.Need-add-n Inv-loop μ-loop
 add-n c = omega (arith, c .one .ensures .1, count-le (c .before .before .before .loop .p) (planning.excused (ringAt (c .before .before .before .before .before .args .w) (c .before .before .before .before .before .args .h) (c .before .before .before .before .before .args .rings .now)) (c .before .before .before .before .before .args .i)), c .before .before .before .loop .inv .1, ring-area (c .before .before .before .before .before .args .w) (c .before .before .before .before .before .args .h) (c .before .before .before .before .before .args .i) (c .before .before .before .before .before .pre .0) (c .before .before .before .before .before .pre .1 .0), c .before .before .loop-test .taken)
 
 add-p : tie.Need-add-p Inv-loop μ-loop
 add-p c = omega (arith, ring-area (c .before .before .before .before .before .args .w) (c .before .before .before .before .before .args .h) (c .before .before .before .before .before .args .i) (c .before .before .before .before .before .pre .0) (c .before .before .before .before .before .pre .1 .0), c .before .before .loop-test .taken)
-
-loop-less : tie.Need-loop-less Inv-loop μ-loop
-loop-less c = search needs
 
 loop-again : tie.Need-loop-again Inv-loop μ-loop
 unfolding planning.excused ringAt
@@ -60,18 +51,5 @@ returns c = count-end (planning.excused (ringAt (c .before .before .before .args
 pub excused-spec : {M : Type 1} → statement M
 excused-spec =
     tie.close
-    (tie.spec
-    Inv-loop
-    μ-loop
-    mul-all
-    mul-start
-    loop-holds
-    add-one
-    mul-one
-    shared-slice-read-one
-    one-requires
-    add-n
-    add-p
-    loop-less
-    loop-again
-    returns)
+    (tie.spec Inv-loop μ-loop mul-all mul-start loop-holds add-one mul-one shared-slice-read-one (λ c κs. search needs) add-n add-p
+    (λ c. search needs) loop-again returns)

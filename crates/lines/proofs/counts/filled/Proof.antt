@@ -8,10 +8,6 @@ use native.Mathlib.Omega.{arith}
 use borrow.Author.Needs.{needs}
 use Rattle.lines.proofs.counts.filled.Statement.{statement}
 use Rattle.lines.proofs.counts.filled.Tie as tie
-use Rattle.lines.proofs.counts.filled.Reads as reads
-use Rattle.lines.proofs.counts.filled.Lts as lts
-use Rattle.lines.proofs.counts.one.Reads as one-reads
-use Rattle.lines.proofs.counts.pixel.Reads as pixel-reads
 
 abbrev Inv-loop : tie.InvT-loop
 Inv-loop s w h i all n₀ p₀ n p = (p ≤ all) × (n ≡ count p (images.pixel w h s i))
@@ -29,17 +25,11 @@ loop-holds c = (omega arith, refl)
 pixel-requires : tie.Need-pixel-requires Inv-loop μ-loop
 pixel-requires c κs = (c .before .before .before .pre, c .loop-test .taken)
 
-one-requires : tie.Need-one-requires Inv-loop μ-loop
-one-requires c κs = search needs
-
 add-n : tie.Need-add-n Inv-loop μ-loop
 add-n c = omega (arith, c .one .ensures .1, count-le (c .before .before .before .loop .p) (images.pixel (c .before .before .before .before .before .args .w) (c .before .before .before .before .before .args .h) (c .before .before .before .before .before .args .s .now) (c .before .before .before .before .before .args .i)), c .before .before .before .loop .inv .1, area (c .before .before .before .before .before .pre), c .before .before .loop-test .taken)
 
 add-p : tie.Need-add-p Inv-loop μ-loop
 add-p c = omega (arith, area (c .before .before .before .before .before .pre), c .before .before .loop-test .taken)
-
-loop-less : tie.Need-loop-less Inv-loop μ-loop
-loop-less c = search needs
 
 loop-again : tie.Need-loop-again Inv-loop μ-loop
 loop-again c = (omega arith, count-next (images.pixel (c .before .before .before .before .before .args .w) (c .before .before .before .before .before .args .h) (c .before .before .before .before .before .args .s .now) (c .before .before .before .before .before .args .i)) (c .before .before .before .loop .p) (c .before .before .before .loop .n) (c .one .result) (c .before .before .before .loop .inv .1) (c .one .ensures .0 ∙ ap bit (c .before .pixel .ensures)))
@@ -50,15 +40,4 @@ returns c = count-end (images.pixel (c .before .before .before .args .w) (c .bef
 pub filled-spec : {M : Type 1} → statement M
 filled-spec =
     tie.close
-    (tie.spec
-    Inv-loop
-    μ-loop
-    mul-all
-    loop-holds
-    pixel-requires
-    one-requires
-    add-n
-    add-p
-    loop-less
-    loop-again
-    returns)
+    (tie.spec Inv-loop μ-loop mul-all loop-holds pixel-requires (λ c κs. search needs) add-n add-p (λ c. search needs) loop-again returns)

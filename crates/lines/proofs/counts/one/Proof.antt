@@ -3,8 +3,6 @@ use native.Mathlib.Omega.{arith}
 use borrow.Author.Needs.{needs}
 use Rattle.lines.proofs.counts.one.Statement.{statement}
 use Rattle.lines.proofs.counts.one.Tie as tie
-use Rattle.lines.proofs.counts.one.Reads as reads
-use Rattle.lines.proofs.counts.one.Lts as lts
 
 returns : tie.Need-returns
 unfolding tools.bit

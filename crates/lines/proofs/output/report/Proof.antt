@@ -16,23 +16,8 @@ refused-line-requires-2 c κs = omega (arith, refused-short 17 (omega arith))
 returns-2 : tie.Need-returns-2
 returns-2 c = printed-report _ _ _ _ _ (rw (c .before .before .before .if1 .left) (longer-report _ _ _ _ (c .before .before .if2 .taken) (refused-printed 17 _ _ _ (omega arith) (c .refused-line2 .ensures))))
 
-read-requires : tie.Need-read-requires
-read-requires c κs = search needs
-
-enum-known-k : tie.Need-enum-known-k
-enum-known-k c = search needs
-
-wide-requires : tie.Need-wide-requires
-wide-requires c κs = search needs
-
 refused-line-requires-3 : tie.Need-refused-line-requires-3
 refused-line-requires-3 c κs = omega (arith, refused-short (c .wide .result) (c .wide .ensures .1))
-
-enum-known-l : tie.Need-enum-known-l
-enum-known-l c = search needs
-
-part-requires : tie.Need-part-requires
-part-requires c κs = search needs
 
 read-text-requires : tie.Need-read-text-requires
 read-text-requires c κs = (job-planable _ (c .before .before .before .before .before .before .before .if2 .left) _ (c .before .before .before .before .before .before .read .ensures) _ _ (c .before .before .before .before .l .given .1) (c .before .part .ensures), search needs)
@@ -46,17 +31,5 @@ returns-4 c = printed-report _ _ _ _ _ (rw (c .before .before .before .before .b
 pub report-spec : {M : Type 1} → statement M
 report-spec =
     tie.close
-    (tie.spec
-    refused-line-requires
-    returns
-    refused-line-requires-2
-    returns-2
-    read-requires
-    enum-known-k
-    wide-requires
-    refused-line-requires-3
-    enum-known-l
-    part-requires
-    read-text-requires
-    returns-3
-    returns-4)
+    (tie.spec refused-line-requires returns refused-line-requires-2 returns-2 (λ c κs. search needs) (λ c. search needs)
+    (λ c κs. search needs) refused-line-requires-3 (λ c. search needs) (λ c κs. search needs) read-text-requires returns-3 returns-4)

@@ -5,11 +5,6 @@ use native.Mathlib.Omega.{arith}
 use borrow.Author.Needs.{needs}
 use Rattle.lines.proofs.output.ring_count.Statement.{statement}
 use Rattle.lines.proofs.output.ring_count.Tie as tie
-use Rattle.lines.proofs.output.ring_count.Reads as reads
-use Rattle.lines.proofs.output.ring_count.Lts as lts
-
-sub-result : tie.Need-sub-result
-sub-result c = search needs
 
 mul-result : tie.Need-mul-result
 mul-result c = omega (arith, ring-product (c .before .before .args .s) (c .before .before .pre) .0)
@@ -22,4 +17,4 @@ unfolding ringsIn
 returns c = refl
 
 pub ring-count-spec : {M : Type 1} → statement M
-ring-count-spec = tie.close (tie.spec sub-result mul-result mul-result-2 returns)
+ring-count-spec = tie.close (tie.spec (λ c. search needs) mul-result mul-result-2 returns)

@@ -5,27 +5,12 @@ use borrow.Author.Needs.{needs}
 use Rattle.sections.proofs.numbers.put16.Statement.{statement}
 use Rattle.sections.proofs.numbers.put16.Tie as tie
 
-cast-d : tie.Need-cast-d
-cast-d c = search needs
-
-slice-write-d : tie.Need-slice-write-d
-slice-write-d c = search needs
-
-cast-d-2 : tie.Need-cast-d-2
-cast-d-2 c = search needs
-
-add-d : tie.Need-add-d
-add-d c = search needs
-
 slice-write-d-2 : tie.Need-slice-write-d-2
 slice-write-d-2 c = simp length-set (omega arith)
-
-same-length : tie.Need-same-length
-same-length c = search needs
 
 returns : tie.Need-returns
 returns c = stores2 _ _ _ _ (c .pre)
 
 pub put16-spec : {M : Type 1} → statement M
 put16-spec =
-    tie.close (tie.spec cast-d slice-write-d cast-d-2 add-d slice-write-d-2 same-length returns)
+    tie.close (tie.spec (λ c. search needs) (λ c. search needs) (λ c. search needs) (λ c. search needs) slice-write-d-2 (λ c. search needs) returns)

@@ -22,35 +22,8 @@ abbrev μ-loop : tie.MeasureT-loop
 loop-holds : tie.Need-loop-holds Inv-loop μ-loop
 loop-holds c = (over-none (now (c .args .d)) 0, omega arith, omega arith, refl)
 
-mul-v : tie.Need-mul-v Inv-loop μ-loop
-mul-v c = omega arith
-
-shared-slice-read-v : tie.Need-shared-slice-read-v Inv-loop μ-loop
-shared-slice-read-v c = omega arith
-
-cast-d : tie.Need-cast-d Inv-loop μ-loop
-cast-d c = omega arith
-
-slice-write-d : tie.Need-slice-write-d Inv-loop μ-loop
-slice-write-d c = omega arith
-
-cast-d-2 : tie.Need-cast-d-2 Inv-loop μ-loop
-cast-d-2 c = omega arith
-
-add-d : tie.Need-add-d Inv-loop μ-loop
-add-d c = omega arith
-
 slice-write-d-2 : tie.Need-slice-write-d-2 Inv-loop μ-loop
 slice-write-d-2 c = simp length-set (omega arith)
-
-add-i : tie.Need-add-i Inv-loop μ-loop
-add-i c = omega arith
-
-add-j : tie.Need-add-j Inv-loop μ-loop
-add-j c = omega arith
-
-loop-less : tie.Need-loop-less Inv-loop μ-loop
-loop-less c = omega arith
 
 loop-again : tie.Need-loop-again Inv-loop μ-loop
 loop-again c =
@@ -69,20 +42,5 @@ returns c =
 pub put16s-spec : {M : Type 1} → statement M
 put16s-spec =
     tie.close
-    (tie.spec
-    Inv-loop
-    μ-loop
-    loop-holds
-    mul-v
-    shared-slice-read-v
-    cast-d
-    slice-write-d
-    cast-d-2
-    add-d
-    slice-write-d-2
-    add-i
-    add-j
-    loop-less
-    loop-again
-    same-length
-    returns)
+    (tie.spec Inv-loop μ-loop loop-holds (λ c. omega arith) (λ c. omega arith) (λ c. omega arith) (λ c. omega arith) (λ c. omega arith)
+    (λ c. omega arith) slice-write-d-2 (λ c. omega arith) (λ c. omega arith) (λ c. omega arith) loop-again same-length returns)

@@ -5,41 +5,14 @@ use borrow.Author.Needs.{needs}
 use Rattle.sections.proofs.numbers.put32.Statement.{statement}
 use Rattle.sections.proofs.numbers.put32.Tie as tie
 
-cast-d : tie.Need-cast-d
-cast-d c = search needs
-
-slice-write-d : tie.Need-slice-write-d
-slice-write-d c = search needs
-
-cast-d-2 : tie.Need-cast-d-2
-cast-d-2 c = search needs
-
-add-d : tie.Need-add-d
-add-d c = search needs
-
 slice-write-d-2 : tie.Need-slice-write-d-2
 slice-write-d-2 c = simp length-set (omega arith)
-
-cast-d-3 : tie.Need-cast-d-3
-cast-d-3 c = search needs
-
-add-d-2 : tie.Need-add-d-2
-add-d-2 c = search needs
 
 slice-write-d-3 : tie.Need-slice-write-d-3
 slice-write-d-3 c = simp length-set (omega arith)
 
-cast-d-4 : tie.Need-cast-d-4
-cast-d-4 c = search needs
-
-add-d-3 : tie.Need-add-d-3
-add-d-3 c = search needs
-
 slice-write-d-4 : tie.Need-slice-write-d-4
 slice-write-d-4 c = simp length-set (omega arith)
-
-same-length : tie.Need-same-length
-same-length c = search needs
 
 returns : tie.Need-returns
 returns c = stores4 _ _ _ _ _ _ (c .pre)
@@ -47,17 +20,5 @@ returns c = stores4 _ _ _ _ _ _ (c .pre)
 pub put32-spec : {M : Type 1} → statement M
 put32-spec =
     tie.close
-    (tie.spec
-    cast-d
-    slice-write-d
-    cast-d-2
-    add-d
-    slice-write-d-2
-    cast-d-3
-    add-d-2
-    slice-write-d-3
-    cast-d-4
-    add-d-3
-    slice-write-d-4
-    same-length
-    returns)
+    (tie.spec (λ c. search needs) (λ c. search needs) (λ c. search needs) (λ c. search needs) slice-write-d-2 (λ c. search needs)
+    (λ c. search needs) slice-write-d-3 (λ c. search needs) (λ c. search needs) slice-write-d-4 (λ c. search needs) returns)

@@ -17,18 +17,6 @@ abbrev μ-loop : tie.MeasureT-loop
 loop-holds : tie.Need-loop-holds Inv-loop μ-loop
 loop-holds c = (refl, omega arith, refl)
 
-shared-slice-read-d : tie.Need-shared-slice-read-d Inv-loop μ-loop
-shared-slice-read-d c = omega arith
-
-slice-write-d : tie.Need-slice-write-d Inv-loop μ-loop
-slice-write-d c = omega arith
-
-add-i : tie.Need-add-i Inv-loop μ-loop
-add-i c = omega arith
-
-loop-less : tie.Need-loop-less Inv-loop μ-loop
-loop-less c = omega arith
-
 loop-again : tie.Need-loop-again Inv-loop μ-loop
 loop-again c = (ap (λ (l : List ℕ). set l (c .before .before .loop .i) (getD (now (c .before .before .before .args .src)) (c .before .before .loop .i) 0)) (c .before .before .loop .inv .0) ∙ bytes-more (now (c .before .before .before .args .d)) (now (c .before .before .before .args .src)) (c .before .before .loop .i) (c .before .loop-test .taken) (c .before .before .before .pre), omega arith, simp length-set (c .before .before .loop .inv .2))
 
@@ -41,14 +29,5 @@ returns c = c .before .loop .inv .0 ∙ bytes-all (now (c .before .before .args 
 pub put-bytes-spec : {M : Type 1} → statement M
 put-bytes-spec =
     tie.close
-    (tie.spec
-    Inv-loop
-    μ-loop
-    loop-holds
-    shared-slice-read-d
-    slice-write-d
-    add-i
-    loop-less
-    loop-again
-    same-length
+    (tie.spec Inv-loop μ-loop loop-holds (λ c. omega arith) (λ c. omega arith) (λ c. omega arith) (λ c. omega arith) loop-again same-length
     returns)

@@ -7,9 +7,6 @@ use borrow.Author.Needs.{needs}
 use Rattle.sections.proofs.reading.copy_refusal.Statement.{statement}
 use Rattle.sections.proofs.reading.copy_refusal.Tie as tie
 
-read-refusal-requires : tie.Need-read-refusal-requires
-read-refusal-requires c κs = search needs
-
 returns : tie.Need-returns
 returns c = stops _ (c .before .read-refusal .ensures) (c .if1 .taken) ∙ sym (copy-parts _ _)
 
@@ -31,11 +28,4 @@ returns-3 c = goes-on (c .before .before .before .before .before .read-refusal .
 pub copy-refusal-spec : {M : Type 1} → statement M
 copy-refusal-spec =
     tie.close
-    (tie.spec
-    read-refusal-requires
-    returns
-    settings-in-requires
-    stored-in-requires
-    ring-count-requires
-    returns-2
-    returns-3)
+    (tie.spec (λ c κs. search needs) returns settings-in-requires stored-in-requires ring-count-requires returns-2 returns-3)

@@ -7,15 +7,9 @@ use borrow.Author.Needs.{needs}
 use Rattle.sections.proofs.reading.from_part.Statement.{statement}
 use Rattle.sections.proofs.reading.from_part.Tie as tie
 
-part-section-requires : tie.Need-part-section-requires
-part-section-requires c κs = search needs
-
 returns : tie.Need-returns
 unfolding bodyRefusal
 returns c = stops _ (c .before .part-section .ensures) (c .if1 .taken)
-
-support-section-requires : tie.Need-support-section-requires
-support-section-requires c κs = search needs
 
 returns-2 : tie.Need-returns-2
 unfolding bodyRefusal
@@ -34,11 +28,4 @@ returns-3 c = goes-on (c .before .before .before .before .before .part-section .
 pub from-part-spec : {M : Type 1} → statement M
 from-part-spec =
     tie.close
-    (tie.spec
-    part-section-requires
-    returns
-    support-section-requires
-    returns-2
-    stored-in-requires
-    from-rings-requires
-    returns-3)
+    (tie.spec (λ c κs. search needs) returns (λ c κs. search needs) returns-2 stored-in-requires from-rings-requires returns-3)

@@ -13,17 +13,8 @@ stored-in-requires c κs = let b = behind _ _ (c .before .before .pre) (c .setti
 part-end-requires : tie.Need-part-end-requires
 part-end-requires c κs = behind _ _ (c .before .before .before .pre) (c .before .settings-in .ensures) .fine
 
-add-support : tie.Need-add-support
-add-support c = search needs
-
 support-end-requires : tie.Need-support-end-requires
 support-end-requires c κs = let v = stored-accepted _ _ _ (c .before .stored-in .ensures) (c .before .before .before .before .pre) (c .before .before .settings-in .ensures) in (v .fine, v .most)
-
-add-rings : tie.Need-add-rings
-add-rings c = search needs
-
-add-t6 : tie.Need-add-t6
-add-t6 c = search needs
 
 returns : tie.Need-returns
 unfolding layoutOf storedIn headEnd
@@ -32,12 +23,5 @@ returns c = rw (c .before .part-end .ensures .0, c .support-end .ensures .0, c .
 pub layout-spec : {M : Type 1} → statement M
 layout-spec =
     tie.close
-    (tie.spec
-    settings-in-requires
-    stored-in-requires
-    part-end-requires
-    add-support
-    support-end-requires
-    add-rings
-    add-t6
-    returns)
+    (tie.spec settings-in-requires stored-in-requires part-end-requires (λ c. search needs) support-end-requires (λ c. search needs)
+    (λ c. search needs) returns)

@@ -5,12 +5,6 @@ use borrow.Author.Needs.{needs}
 use Rattle.sections.proofs.reading.part_in.Statement.{statement}
 use Rattle.sections.proofs.reading.part_in.Tie as tie
 
-add-from : tie.Need-add-from
-add-from c = search needs
-
-part-end-requires : tie.Need-part-end-requires
-part-end-requires c κs = search needs
-
 sub-result : tie.Need-sub-result
 unfolding partEnd headEnd
 sub-result c = omega arith
@@ -19,13 +13,10 @@ part-result-start : tie.Need-part-result-start
 unfolding partEnd headEnd
 part-result-start c = omega arith
 
-part-result-end : tie.Need-part-result-end
-part-result-end c = search needs
-
 returns : tie.Need-returns
 returns c = part-stretch _ _ _ (c .before .before .before .pre .1) (c .before .part-end .ensures .0)
 
 pub part-in-spec : {M : Type 1} → statement M
 part-in-spec =
     tie.close
-    (tie.spec add-from part-end-requires sub-result part-result-start part-result-end returns)
+    (tie.spec (λ c. search needs) (λ c κs. search needs) sub-result part-result-start (λ c. search needs) returns)

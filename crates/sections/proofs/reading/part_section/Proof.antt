@@ -10,14 +10,8 @@ use borrow.Author.Needs.{needs}
 use Rattle.sections.proofs.reading.part_section.Statement.{statement}
 use Rattle.sections.proofs.reading.part_section.Tie as tie
 
-rows-of-requires : tie.Need-rows-of-requires
-rows-of-requires c κs = search needs
-
 row-bytes-requires : tie.Need-row-bytes-requires
 row-bytes-requires c κs = ranged (c .before .before .args .s) (c .before .before .pre) .w-high
-
-section-requires : tie.Need-section-requires
-section-requires c κs = search needs
 
 returns : tie.Need-returns
 unfolding headEnd
@@ -25,4 +19,4 @@ returns c = c .section .ensures ∙ ap₂ (λ (a u : ℕ). refusal (sectionCases
 
 pub part-section-spec : {M : Type 1} → statement M
 part-section-spec =
-    tie.close (tie.spec rows-of-requires row-bytes-requires section-requires returns)
+    tie.close (tie.spec (λ c κs. search needs) row-bytes-requires (λ c κs. search needs) returns)

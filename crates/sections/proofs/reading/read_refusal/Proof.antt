@@ -10,17 +10,11 @@ use borrow.Author.Needs.{needs}
 use Rattle.sections.proofs.reading.read_refusal.Statement.{statement}
 use Rattle.sections.proofs.reading.read_refusal.Tie as tie
 
-settings-section-requires : tie.Need-settings-section-requires
-settings-section-requires c κs = search needs
-
 returns : tie.Need-returns
 returns c = stops _ (c .before .settings-section .ensures) (c .if1 .taken) ∙ sym (read-parts (now (c .before .before .before .args .f)))
 
 settings-in-requires : tie.Need-settings-in-requires
 settings-in-requires c κs = first-whole _ (sym (c .before .settings-section .ensures) ∙ c .if1 .left)
-
-settings-refusal-requires : tie.Need-settings-refusal-requires
-settings-refusal-requires c κs = search needs
 
 returns-2 : tie.Need-returns-2
 returns-2 c = goes-on (c .before .before .before .before .settings-section .ensures) (c .before .before .before .if1 .left) (stops _ (c .before .settings-refusal .ensures ∙ ap (λ (s : Settings). refusal (settingCases s)) (c .before .before .settings-in .ensures)) (c .if2 .taken)) ∙ sym (read-parts (now (c .before .before .before .before .before .before .args .f)))
@@ -34,11 +28,4 @@ returns-3 c = goes-on (c .before .before .before .before .before .settings-secti
 pub read-refusal-spec : {M : Type 1} → statement M
 read-refusal-spec =
     tie.close
-    (tie.spec
-    settings-section-requires
-    returns
-    settings-in-requires
-    settings-refusal-requires
-    returns-2
-    from-part-requires
-    returns-3)
+    (tie.spec (λ c κs. search needs) returns settings-in-requires (λ c κs. search needs) returns-2 from-part-requires returns-3)

@@ -8,18 +8,9 @@ use borrow.Author.Needs.{needs}
 use Rattle.sections.proofs.reading.rings_section.Statement.{statement}
 use Rattle.sections.proofs.reading.rings_section.Tie as tie
 
-ring-count-requires : tie.Need-ring-count-requires
-ring-count-requires c κs = search needs
-
-support-end-requires : tie.Need-support-end-requires
-support-end-requires c κs = search needs
-
-section-requires : tie.Need-section-requires
-section-requires c κs = search needs
-
 returns : tie.Need-returns
 returns c = c .section .ensures ∙ ap₂ (λ (at a : ℕ). refusal (sectionCases (now (c .before .before .before .before .args .f)) at (oneOf a a) 2)) (c .before .support-end .ensures .0) (c .before .before .ring-count .ensures .0) ∙ only (now (c .before .before .before .before .args .f)) _ _ 2
 
 pub rings-section-spec : {M : Type 1} → statement M
 rings-section-spec =
-    tie.close (tie.spec ring-count-requires support-end-requires section-requires returns)
+    tie.close (tie.spec (λ c κs. search needs) (λ c κs. search needs) (λ c κs. search needs) returns)

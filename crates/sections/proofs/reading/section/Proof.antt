@@ -9,26 +9,11 @@ use borrow.Author.Needs.{needs}
 use Rattle.sections.proofs.reading.section.Statement.{statement}
 use Rattle.sections.proofs.reading.section.Tie as tie
 
-add-if1 : tie.Need-add-if1
-add-if1 c = search needs
-
 returns : tie.Need-returns
 returns c = count-cut _ _ _ _ (c .if1 .taken)
 
-get32-requires : tie.Need-get32-requires
-get32-requires c κs = search needs
-
-cast-c : tie.Need-cast-c
-cast-c c = search needs
-
-allowed-requires : tie.Need-allowed-requires
-allowed-requires c κs = search needs
-
 returns-2 : tie.Need-returns-2
 returns-2 c = count-wrong _ _ _ _ (c .before .before .before .if1 .left) (rw (c .before .before .get32 .ensures .0) at (sym (c .before .allowed .ensures) ∙ not-true _ (c .if2 .taken)))
-
-add-if3 : tie.Need-add-if3
-add-if3 c = search needs
 
 mul-if3 : tie.Need-mul-if3
 mul-if3 c = let h : c .before .before .get32 .result ≤ 4294967295 = omega (arith, c .before .before .get32 .ensures .1) in omega (arith, mul-le-mul h (c .before .before .before .before .before .pre .1))
@@ -45,15 +30,5 @@ returns-4 c = sym (section-in _ _ _ _ (record { room = c .before .before .before
 pub section-spec : {M : Type 1} → statement M
 section-spec =
     tie.close
-    (tie.spec
-    add-if1
-    returns
-    get32-requires
-    cast-c
-    allowed-requires
-    returns-2
-    add-if3
-    mul-if3
-    add-if3-2
-    returns-3
-    returns-4)
+    (tie.spec (λ c. search needs) returns (λ c κs. search needs) (λ c. search needs) (λ c κs. search needs) returns-2 (λ c. search needs)
+    mul-if3 add-if3-2 returns-3 returns-4)

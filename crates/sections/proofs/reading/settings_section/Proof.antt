@@ -4,11 +4,8 @@ use borrow.Author.Needs.{needs}
 use Rattle.sections.proofs.reading.settings_section.Statement.{statement}
 use Rattle.sections.proofs.reading.settings_section.Tie as tie
 
-section-requires : tie.Need-section-requires
-section-requires c κs = search needs
-
 returns : tie.Need-returns
 returns c = c .section .ensures ∙ only _ 0 5 2
 
 pub settings-section-spec : {M : Type 1} → statement M
-settings-section-spec = tie.close (tie.spec section-requires returns)
+settings-section-spec = tie.close (tie.spec (λ c κs. search needs) returns)

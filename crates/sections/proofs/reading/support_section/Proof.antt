@@ -10,17 +10,8 @@ use borrow.Author.Needs.{needs}
 use Rattle.sections.proofs.reading.support_section.Statement.{statement}
 use Rattle.sections.proofs.reading.support_section.Tie as tie
 
-part-end-requires : tie.Need-part-end-requires
-part-end-requires c κs = search needs
-
-rows-of-requires : tie.Need-rows-of-requires
-rows-of-requires c κs = search needs
-
 row-bytes-requires : tie.Need-row-bytes-requires
 row-bytes-requires c κs = ranged (c .before .before .before .args .s) (c .before .before .before .pre) .w-high
-
-section-requires : tie.Need-section-requires
-section-requires c κs = search needs
 
 returns : tie.Need-returns
 returns c =
@@ -32,4 +23,4 @@ returns c =
 pub support-section-spec : {M : Type 1} → statement M
 support-section-spec =
     tie.close
-    (tie.spec part-end-requires rows-of-requires row-bytes-requires section-requires returns)
+    (tie.spec (λ c κs. search needs) (λ c κs. search needs) row-bytes-requires (λ c κs. search needs) returns)

@@ -8,12 +8,6 @@ use borrow.Author.Needs.{needs}
 use Rattle.sections.proofs.sizes.support_end.Statement.{statement}
 use Rattle.sections.proofs.sizes.support_end.Tie as tie
 
-part-end-requires : tie.Need-part-end-requires
-part-end-requires c κs = search needs
-
-add-result : tie.Need-add-result
-add-result c = search needs
-
 row-bytes-requires : tie.Need-row-bytes-requires
 row-bytes-requires c κs = ranged (c .before .args .s) (c .before .pre .0) .w-high
 
@@ -30,4 +24,4 @@ returns c = (ap₂ (λ (a b : ℕ). a + 4 + c .before .before .args .c * b) (c .
 pub support-end-spec : {M : Type 1} → statement M
 support-end-spec =
     tie.close
-    (tie.spec part-end-requires add-result row-bytes-requires mul-result add-result-2 returns)
+    (tie.spec (λ c κs. search needs) (λ c. search needs) row-bytes-requires mul-result add-result-2 returns)
