@@ -38,7 +38,7 @@ fn bad(
     if !crate::leaning::touches(low, up, rings, w, h, r, c, k) {
         return true;
     }
-    !quick::bits::column_at(close, c)
+    !leans::bits::column_at(close, c)
 }
 
 // Whether the pixel is unheld.

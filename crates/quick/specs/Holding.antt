@@ -24,10 +24,8 @@ use Rattle.words.specs.WordLaws.{whole-row, first-word}
 use Rattle.places.specs.Search.{unheldHere}
 use Rattle.places.specs.Planes.{in-plane}
 use Rattle.places.specs.Rows.{bytes-in, byte-of}
-use Rattle.quick.specs.Sound.{Good, Beside, Sound, seedPart, shadowPart, Long, Shadeless, Bare, Row-sound, Row-held}
-
-row-of : (y a w c : ℕ) → a ≤ y → a * w + ((y - a) * w + c) ≡ y * w + c
-row-of y a w c l = let z : a + (y - a) ≡ y = omega arith in let e : a * w + (y - a) * w ≡ y * w = sym (add-mul a (y - a) w) ∙ ap (λ (n : ℕ). n * w) z in omega arith
+use Rattle.leans.specs.Leaning.{Good, Bare}
+use Rattle.quick.specs.Sound.{Beside, Sound, seedPart, shadowPart, Long, Shadeless, Row-sound, Row-held}
 
 -- a row's bytes lie in its plane
 pub row-room : (w h y rb len : ℕ) → y < h → rb ≡ rowBytes w → h * rowBytes w ≤ len → y * rb + rb ≤ len
@@ -165,15 +163,6 @@ bare-held w r low up below rings none c l s b = clash s (none c l)
 -- rows from a up to b, and rows before a
 pub rows-more : (P : ℕ → Type 0) (a b : ℕ) → ((y : ℕ) → y < a → P y) → ((y : ℕ) → a ≤ y → y < b → P y) → (y : ℕ) → y < b → P y
 rows-more P a b old new y l = split (ltb y a) (λ t. old y (ltb-true y a t)) (λ t. new y (ltb-false y a t) l)
-
-pub rows-end : (a b w : ℕ) → a ≤ b → a * w + (b - a) * w ≡ b * w
-rows-end a b w l = let z : a + (b - a) ≡ b = omega arith in sym (add-mul a (b - a) w) ∙ ap (λ (n : ℕ). n * w) z
-
--- the rings of a stretch of rows
-pub quiet-rows : (w a b : ℕ) (rings : List ℕ) → ((j : ℕ) → j < (b - a) * w → getD rings (a * w + j) 0 ≡ 0) → (y : ℕ) → a ≤ y → y < b → Bare w rings y
-quiet-rows w a b rings none y lo hi c l =
-    let z : a * w + ((y - a) * w + c) ≡ y * w + c = row-of y a w c lo in
-    rw z at (none ((y - a) * w + c) (digits-lt (omega arith) l))
 
 -- a row that was put into four words
 pub put-four : (g was out : ℕ → Bool) → Within (0 * 64) ((0 + 4) * 64) (λ j. g (j - 0 * 64)) was out → (c : ℕ) → c < 256 → out c ≡ g c

@@ -1,8 +1,6 @@
 -- What the contracts cite.
 pub mod Sound
 -- Laws about it.
-pub mod BitLaws
-pub mod Joined
 pub mod Holding
 pub mod Trust
 pub mod Hanging

@@ -12,41 +12,6 @@ use Rattle.rules.specs.Planning.{shadow, seeds, touch, near}
 use Rattle.words.specs.Words.{bitOfWord, rowPart}
 use Rattle.image.specs.Rows.{packed}
 use Rattle.places.specs.Search.{unheldHere, flat, Sized}
-use Rattle.quick.specs.declared.Told.{Told}
-
--- the pixel in row r and column c, or one of its neighbours, has ring v
-pub record Step (w h : ℕ) (rings : List ℕ) (r c v : ℕ) : Type 0 where
-  pub row : ℕ
-  pub column : ℕ
-  pub row-in : row < h
-  pub column-in : column < w
-  pub up : r ≤ row + 1
-  pub down : row ≤ r + 1
-  pub left : c ≤ column + 1
-  pub right : column ≤ c + 1
-  pub is : getD rings (row * w + column) 0 ≡ v
-
--- the ring in row r and column c is good: ring 1 where the pixel is one of the first, a larger one where it is free and can step on
-pub record Good (w h : ℕ) (free first : Bool) (rings : List ℕ) (r c : ℕ) : Type 0 where
-  pub first-in : getD rings (r * w + c) 0 ≡ 1 → first ≡ true
-  pub free-in : 1 < getD rings (r * w + c) 0 → free ≡ true
-  pub leans : 1 < getD rings (r * w + c) 0 → Step w h rings r c (getD rings (r * w + c) 0 - 1)
-
--- byte b of the word m: its eight rings, of which place x is the word's first, are 1 at its bits and else 0
-abbrev pub Alike : List ℕ → ℕ → ℕ → ℕ → Type 0
-Alike rings x m b = (k : ℕ) → k < 8 → getD rings (x + 8 * b + k) 0 ≡ bit (bitOfWord m (8 * b + k))
-
--- the bits of `got` from a up to b are those of the word's pixels that have a ring, and there are no others
-pub record Got (w : ℕ) (rings : List ℕ) (at x a b got : ℕ) : Type 0 where
-  pub has : (k : ℕ) → a ≤ k → k < b → x + k < w → bitOfWord got k ≡ ltb 0 (getD rings (at + (x + k)) 0)
-  pub only : (k : ℕ) → k < 64 → (a ≤ k → k < b → ⊥) → bitOfWord got k ≡ false
-
--- what the word at column x of row r tells of its bits from a up to b, where it says yes: their rings are good and at most `most`, and
--- `got` has those that have one
-pub record Tells (w h : ℕ) (rings : List ℕ) (r x a b free first : ℕ) (t : Told) : Type 0 where
-  pub fine : t .good ≡ true → (k : ℕ) → a ≤ k → k < b → x + k < w → Good w h (bitOfWord free k) (bitOfWord first k) rings r (x + k)
-  pub gets : t .good ≡ true → Got w rings (r * w) x a b (t .got)
-  pub most : t .good ≡ true → (k : ℕ) → a ≤ k → k < b → x + k < w → getD rings (r * w + (x + k)) 0 ≤ t .most
 
 -- the pixel o touches p
 pub record Beside (w h : ℕ) (f : Plane) (p : ℕ) : Type 0 where
@@ -91,12 +56,9 @@ Row-sound w h t f low up rings r = (c : ℕ) → c < w → Sound w h (packed w l
 abbrev pub Row-good : ℕ → ℕ → ℕ → ℕ → List ℕ → List ℕ → List ℕ → ℕ → Type 0
 Row-good w h q t low up rings r = Row-sound w h t (λ c. near w h q (packed w low) (r * w + c)) low up rings r
 
--- row r has no shadow; and none of its pixels has a ring
+-- row r has no shadow
 abbrev pub Shadeless : ℕ → List ℕ → List ℕ → ℕ → Type 0
 Shadeless w low up r = (c : ℕ) → c < w → shadow (packed w low) (packed w up) (r * w + c) ≡ false
-
-abbrev pub Bare : ℕ → List ℕ → ℕ → Type 0
-Bare w rings r = (c : ℕ) → c < w → getD rings (r * w + c) 0 ≡ 0
 
 -- each shadow pixel of row r that has no support below has a ring
 abbrev pub Row-held : ℕ → List ℕ → List ℕ → List ℕ → List ℕ → ℕ → Type 0

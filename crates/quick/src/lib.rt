@@ -1,16 +1,11 @@
 // Whether a pair of layers, or a stack, has no bad ring and no unheld pixel: by rows of words, without telling where. Only a yes is relied
 // on: after a no the pixels are looked at one by one.
-pub mod bits;
-pub mod eights;
 pub mod layers;
 pub mod looks;
-pub mod marks;
 pub mod near;
 pub mod pair;
 pub mod rows;
 pub mod stack;
-pub mod steps;
-pub mod words64;
 
 use words::Row;
 
@@ -26,21 +21,8 @@ pub struct Seen {
     pub hung: u8,
 }
 
-// What 64 pixels tell: whether their rings are good, which of them have one, and a number that none of them exceeds.
-pub struct Told {
-    pub good: bool,
-    pub got: u64,
-    pub most: u16,
-}
-
-// What a row tells: whether its rings are good but for nearness, whether each pixel that hangs has one, and a number that none exceeds.
-pub struct Line {
-    pub rings: bool,
-    pub held: bool,
-    pub most: u16,
-}
-
-// The same of a row whose pixels with far rings, and perhaps others that have a ring, are those of `far`.
+// What a row tells: whether its rings are good but for nearness, whether each pixel that hangs has one, and in `far` the pixels whose ring
+// may be far.
 pub struct Passed {
     pub rings: bool,
     pub held: bool,

@@ -15,7 +15,8 @@ ghost use Rattle.image.specs.Rows.{packed, Clean};
 ghost use Rattle.words.specs.Words.{column, wordBit, Ones};
 ghost use Rattle.planes.specs.Scratch.{Ready, Drawn};
 ghost use Rattle.places.specs.Search.{Sized, badHere, unheldHere};
-ghost use Rattle.quick.specs.Sound.{Long, Shadeless, Bare, Row-sound, Row-good, Row-held};
+ghost use Rattle.leans.specs.Leaning.{Bare};
+ghost use Rattle.quick.specs.Sound.{Long, Shadeless, Row-sound, Row-good, Row-held};
 
 // Row r. Rings of at most t are near by themselves.
 fn shaded_row(
@@ -50,7 +51,7 @@ fn shaded_row(
         crate::rows::not_in(shadow, below, r * rb, rb),
     );
     let mut got = [0u64; 4];
-    let s = crate::words64::row(rings, ones, &frees, &firsts, &hangs, &mut got, w, h, r);
+    let s = leans::words64::row(rings, ones, &frees, &firsts, &hangs, &mut got, w, h, r);
     Passed {
         rings: s.rings,
         held: s.held,
@@ -104,7 +105,7 @@ fn row(
     ensures { λ s. ⌜ (s .rings ≡ true → Row-sound w h t (column (s .far)) (now (low .entry)) (now (up .entry)) (now (rings .entry)) r) ⌝ }
     ensures { λ s. ⌜ (s .held ≡ true → Row-held w (now (low .entry)) (now (up .entry)) (now (below .entry)) (now (rings .entry)) r) ⌝ }
 {
-    if !crate::marks::bare(rings, from, r, w) {
+    if !leans::marks::bare(rings, from, r, w) {
         return Passed {
             rings: false,
             held: false,
@@ -179,19 +180,19 @@ fn rows(
     while r < h {
         let s = row(low, up, below, rings, ones, w, h, from, r, t);
         let n = near_all(low, disc, halves, s.far, w, h, r, q, drawn);
-        if !crate::bits::both(s.rings, n.good) {
+        if !leans::bits::both(s.rings, n.good) {
             return Sure {
                 rings: false,
                 held: false,
             };
         }
-        held = crate::bits::both(held, s.held);
+        held = leans::bits::both(held, s.held);
         drawn = n.drawn;
         from = r + 1;
         r = shaded(low, up, w, h, from);
     }
     Sure {
-        rings: crate::marks::bare(rings, from, h, w),
+        rings: leans::marks::bare(rings, from, h, w),
         held,
     }
 }
@@ -204,7 +205,7 @@ fn ringless(low: &[u8], up: &[u8], below: &[u8], rings: &[u16], w: usize, h: usi
 {
     let seen = crate::looks::look(low, up, below, up, h * limits::row_bytes(w));
     Sure {
-        rings: crate::marks::bare(rings, 0, h, w),
+        rings: leans::marks::bare(rings, 0, h, w),
         held: seen.hung == 0,
     }
 }
@@ -256,13 +257,13 @@ pub fn pair(
     let seen = crate::looks::look(low, up, below, above, h * limits::row_bytes(w));
     if seen.shadow == 0 {
         return Sure {
-            rings: crate::marks::quiet(rings, 0, h * w),
+            rings: leans::marks::quiet(rings, 0, h * w),
             held: seen.hung == 0,
         };
     }
     let s = shaded_pair(low, up, below, rings, ones, halves, w, h, q, t);
     Sure {
         rings: s.rings,
-        held: crate::bits::both(s.held, seen.hung == 0),
+        held: leans::bits::both(s.held, seen.hung == 0),
     }
 }

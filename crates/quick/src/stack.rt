@@ -46,7 +46,7 @@ fn pairs(
             q,
             t,
         );
-        if !crate::bits::both(s.rings, s.held) {
+        if !leans::bits::both(s.rings, s.held) {
             return false;
         }
         at = mid;

@@ -1,4 +1,4 @@
-use Rattle.quick.specs.BitLaws.{row-start}
+use Rattle.leans.specs.BitLaws.{row-start}
 use mathlib.Core.Path.{_∙_}
 use native.Mathlib.Omega.{arith}
 use borrow.Author.Needs.{needs}

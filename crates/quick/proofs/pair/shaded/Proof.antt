@@ -1,5 +1,5 @@
 use Rattle.quick.specs.Holding.{row-room, shadeless}
-use Rattle.quick.specs.Joined.{all-more}
+use Rattle.leans.specs.Joined.{all-more}
 use Rattle.quick.specs.Sound.{Shadeless}
 use Rattle.places.specs.Rows.{fit-of}
 use Rattle.words.specs.Words.{column}

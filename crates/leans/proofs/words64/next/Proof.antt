@@ -1,0 +1,13 @@
+use native.Mathlib.Omega.{arith}
+use borrow.Author.Needs.{needs}
+use Rattle.leans.proofs.words64.next.Statement.{statement}
+use Rattle.leans.proofs.words64.next.Tie as tie
+
+returns : tie.Need-returns
+returns c = (omega arith, c .before .before .before .pre .3, λ k lo hi. absurd (omega arith))
+
+unlike-requires : tie.Need-unlike-requires
+unlike-requires c κs = (c .before .before .before .pre .0 (omega arith), c .before .before .before .pre .1, c .before .before .before .pre .2, c .before .before .before .pre .3)
+
+pub next-spec : {M : Type 1} → statement M
+next-spec = tie.close (tie.spec returns unlike-requires (λ c. search needs))

@@ -1,0 +1,6 @@
+-- What the contracts cite.
+pub mod Leaning
+-- Laws about it.
+pub mod BitLaws
+pub mod Joined
+pub mod RowLaws
