@@ -62,7 +62,11 @@ fn in_row(
     ensures { λ s. ⌜ Least 0 w (λ c. amissHere ringed w h (q .0) (now (low .entry)) (now (up .entry)) (now (below .entry)) (now (above .entry)) (now (rings .entry)) (r * w + c)) s ⌝ }
 {
     let mut close = [0u64; 4];
-    words::rows::put(&mut close, 0, quick::near::near_row(disc, halves, r, q));
+    words::rows::put(
+        &mut close,
+        0,
+        planes::nearness::near_row(disc, r, halves, q),
+    );
     in_columns(low, up, below, above, rings, &close, w, h, r, ringed)
 }
 

@@ -11,7 +11,7 @@ use Rattle.rules.specs.Images.{Plane}
 use Rattle.rules.specs.Planning.{near}
 use Rattle.rules.specs.Reach.{apart, halfWidth, root, square}
 use lib.ListN.{getD}
-use Rattle.laws.specs.Discs.{Halves, HalfWidth, half-width, half-small, root-low, root-most, root-small}
+use Rattle.laws.specs.Discs.{Halves, HalfWidth, half-width, half-small, root-is, root-low, root-most, root-small}
 use Rattle.laws.specs.Neighbours.{near-is}
 use Rattle.laws.specs.Tests.{bool-eq, or-l, or-r, or-out}
 use Rattle.words.specs.Words.{wordBit, Widened}
@@ -19,6 +19,14 @@ use Rattle.planes.specs.Scratch.{spot, Sizes, Pixel, Framed, seen, rowBi
 use Rattle.planes.specs.Nearness.{Reaching, NearTo}
 use Rattle.planes.specs.PlaneLaws.{seen-at, row-bit}
 use Rattle.planes.specs.TouchLaws.{row-out}
+
+-- in its middle row a disc runs as far as it does up and down
+pub half-root : (q : ℕ) (half : List ℕ) → Halves q half → getD half 0 0 ≡ root q
+unfolding square
+half-root q half H =
+    let x : ℕ = getD half 0 0 in
+    let m = H .half 0 (omega arith) in
+    root-is q x (omega (arith, m .inside x (omega arith))) (omega (arith, m .outside (suc x) (omega arith)))
 
 -- a column n away from c and a away from x, where the two are at most a + n apart
 between : (c x a n : ℕ) → c < 256 → x < 256 → apart c x ≤ a + n → (y : ℕ) × (y < 256) × (c ≤ y + n) × (y ≤ c + n) × (apart y x ≤ a)

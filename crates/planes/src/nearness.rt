@@ -7,7 +7,7 @@ ghost use mathlib.Core.Bool.{_||_};
 ghost use Prim.Native.Nat.{ℕ, _+_, _-_, _*_, _<_, _≤_};
 ghost use lib.ListN.{length};
 ghost use Rattle.rules.specs.Planning.{near};
-ghost use Rattle.rules.specs.Reach.{halfWidth, root};
+ghost use Rattle.rules.specs.Reach.{halfWidth};
 ghost use Rattle.laws.specs.Discs.{Halves};
 ghost use Rattle.words.specs.Words.{column};
 ghost use Rattle.planes.specs.Scratch.{Sizes, Framed, seen};
@@ -24,12 +24,13 @@ fn further(low: &[u64], k: usize, x: Row, half: &[usize], q: Bound, d: usize) ->
     words::rows::either(wide, beside)
 }
 
-// The pixels of row y that are near: those with a pixel of low at squared distance at most q. half has the half-widths of the disc, and
-// reach is how many rows it runs up and down.
-pub fn near_row(low: &[u64], y: usize, half: &[usize], q: Bound, reach: usize) -> Row
-    requires { ⌜ (length (now low) ≡ 1610) × (y < 256) × (q .0 ≤ 1024) × Halves (q .0) (now half) × (reach ≡ root (q .0)) ⌝ }
+// The pixels of row y that are near: those with a pixel of low at squared distance at most q. half has the half-widths of the disc, which in
+// its middle row runs as far as it does up and down.
+pub fn near_row(low: &[u64], y: usize, half: &[usize], q: Bound) -> Row
+    requires { ⌜ (length (now low) ≡ 1610) × (y < 256) × (q .0 ≤ 1024) × Halves (q .0) (now half) ⌝ }
     ensures { λ r. ⌜ ((w h : ℕ) → Sizes w h → Framed w h (now (low .entry)) → y < h → (c : ℕ) → c < w → column r c ≡ near w h (q .0) (seen w (now (low .entry))) (y * w + c)) ⌝ }
 {
+    let reach = half[0];
     let k = y + 33;
     let mut x = crate::rows::row(low, k);
     let mut d: usize = 0;

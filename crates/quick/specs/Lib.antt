@@ -6,4 +6,3 @@ pub mod Trust
 pub mod Hanging
 pub mod Layers
 pub mod Stacks
-pub mod Nearby

@@ -2,7 +2,6 @@
 // on: after a no the pixels are looked at one by one.
 pub mod layers;
 pub mod looks;
-pub mod near;
 pub mod pair;
 pub mod rows;
 pub mod stack;

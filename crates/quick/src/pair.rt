@@ -147,7 +147,7 @@ fn near_all(
         return Close { good: true, drawn };
     }
     draw(low, disc, w, h, drawn);
-    let close = crate::near::near_row(disc, halves, r, q);
+    let close = planes::nearness::near_row(disc, r, halves, q);
     Close {
         good: !words::rows::any(words::rows::but_not(far, close)),
         drawn: true,

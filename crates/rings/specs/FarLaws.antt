@@ -8,8 +8,6 @@ use native.Mathlib.Decide.{decLt}
 use lib.Arith.{digits-div, digits-mod}
 use lib.ListN.{length, getD}
 use Rattle.rules.specs.Planning.{near}
-use Rattle.rules.specs.Reach.{root, square}
-use Rattle.laws.specs.Discs.{Halves, root-is}
 use Rattle.laws.specs.Tests.{split, clash, and-l, and-false}
 use Rattle.words.specs.Words.{wordBit, column}
 use Rattle.planes.specs.PlaneLaws.{seen-is, pixel-row, row-bit, fresh-none, framed-row}
@@ -17,14 +15,6 @@ use Rattle.planes.specs.Scratch.{spot, Sizes, Framed, Ready, seen, fresh, rowBi
 use Rattle.waves.specs.RowLaws.{put-bits, kept-bits, upto-row, gap-none, none-before, none-behind}
 use Rattle.waves.specs.Rows.{Room, RowBits, Upto}
 use Rattle.rings.specs.Landing.{nearBits}
-
--- in its middle row a disc runs as far as it does up and down
-pub half-root : (q : ℕ) (half : List ℕ) → Halves q half → getD half 0 0 ≡ root q
-unfolding square
-half-root q half H =
-    let x : ℕ = getD half 0 0 in
-    let m = H .half 0 (omega arith) in
-    root-is q x (omega (arith, m .inside x (omega arith))) (omega (arith, m .outside (suc x) (omega arith)))
 
 -- one row, of which the far pixels are dropped
 near-at : (w h q : ℕ) (low left : List ℕ) (k c : ℕ) → c < 320 → nearBits w h q low left (k * 320 + c) ≡ (wordBit left (k * 320 + c) && near w h q (seen w low) ((k - 33) * w + c))

@@ -5,7 +5,6 @@ ghost use mathlib.Core.Bool.{false};
 ghost use Prim.Native.Nat.{ℕ, _+_, _*_, _<_, _≤_};
 ghost use lib.ListN.{length};
 ghost use Rattle.rules.specs.Images.{rowBytes};
-ghost use Rattle.rules.specs.Reach.{root};
 ghost use Rattle.laws.specs.Discs.{Halves};
 ghost use Rattle.image.specs.Rows.{packed, Clean};
 ghost use Rattle.words.specs.Words.{wordBit};
@@ -26,40 +25,19 @@ pub fn read_plane(s: &[u8], out: &mut [u64], w: usize, h: usize, n: usize)
 }
 
 // Drops the pixels of row y that are not near.
-fn drop_row(low: &[u64], left: &mut [u64], y: usize, half: &[usize], q: Bound, reach: usize)
-    requires { ⌜ (length (now low) ≡ 1610) × (length (now left) ≡ 1610) × (y < 256) × (q .0 ≤ 1024) × Halves (q .0) (now half) × (reach ≡ root (q .0)) ⌝ }
+fn drop_row(low: &[u64], left: &mut [u64], y: usize, half: &[usize], q: Bound)
+    requires { ⌜ (length (now low) ≡ 1610) × (length (now left) ≡ 1610) × (y < 256) × (q .0 ≤ 1024) × Halves (q .0) (now half) ⌝ }
     ensures { λ _. ⌜ ((w h : ℕ) → Sizes w h → Framed w h (now (low .entry)) → Framed w h (now (left .entry)) → y < h → RowBits (y + 33) (nearBits w h (q .0) (now (low .entry)) (now (left .entry))) (now (left .entry)) (now (left .exit))) ⌝ }
 {
     let own = planes::rows::row(left, y + 33);
     if !words::rows::any(own) {
         return;
     }
-    let close = planes::nearness::near_row(low, y, half, q, reach);
+    let close = planes::nearness::near_row(low, y, half, q);
     planes::rows::put(left, y + 33, words::rows::both(own, close));
 }
 
 // Drops the pixels that are not near to low, in the rows that `ahead` leads to, by the half-widths of the disc.
-fn drop_rows(
-    low: &[u64],
-    left: &mut [u64],
-    ahead: &[usize],
-    half: &[usize],
-    w: usize,
-    h: usize,
-    q: Bound,
-    reach: usize,
-)
-    requires { ⌜ Sizes w h × Aheads h (now ahead) × Ready w h (now low) × Room w h (now ahead) (now left) × (q .0 ≤ 1024) × Halves (q .0) (now half) × (reach ≡ root (q .0)) ⌝ }
-    ensures { λ _. ⌜ ((j : ℕ) → wordBit (now (left .exit)) j ≡ nearBits w h (q .0) (now (low .entry)) (now (left .entry)) j) ⌝ }
-{
-    let mut y = ahead[0];
-    while y < h {
-        drop_row(low, left, y, half, q, reach);
-        y = ahead[y + 1];
-    }
-}
-
-// The same; in its middle row a disc runs as far as it does up and down.
 pub fn drop_far(
     low: &[u64],
     left: &mut [u64],
@@ -72,7 +50,11 @@ pub fn drop_far(
     requires { ⌜ Sizes w h × Aheads h (now ahead) × Ready w h (now low) × Room w h (now ahead) (now left) × (q .0 ≤ 1024) × Halves (q .0) (now half) ⌝ }
     ensures { λ _. ⌜ ((j : ℕ) → wordBit (now (left .exit)) j ≡ nearBits w h (q .0) (now (low .entry)) (now (left .entry)) j) ⌝ }
 {
-    drop_rows(low, left, ahead, half, w, h, q, half[0]);
+    let mut y = ahead[0];
+    while y < h {
+        drop_row(low, left, y, half, q);
+        y = ahead[y + 1];
+    }
 }
 
 fn either(a: bool, b: bool) -> bool

@@ -4,7 +4,7 @@ use Rattle.rules.specs.Reach.{halfWidth, root}
 use Rattle.laws.specs.Discs.{root-small}
 use Rattle.words.specs.Words.{column}
 use Rattle.planes.specs.Nearness.{NearTo}
-use Rattle.planes.specs.NearLaws.{near-own, near-all, half-max, half-is, reach-in}
+use Rattle.planes.specs.NearLaws.{half-root, near-own, near-all, half-max, half-is, reach-in}
 use native.Mathlib.Omega.{arith}
 use borrow.Author.Needs.{needs}
 use Rattle.planes.proofs.nearness.near_row.Statement.{statement}
@@ -16,49 +16,43 @@ Inv-loop low y half q reach k x₀ d₀ x d = (d ≤ reach) × (reach ≡ root (
 abbrev μ-loop : tie.MeasureT-loop
 μ-loop low y half q reach k x₀ d₀ x d = reach - d
 
--- src/nearness.rt:39:5
+shared-slice-read-reach : tie.Need-shared-slice-read-reach Inv-loop μ-loop
+shared-slice-read-reach c = omega (arith, c .before .before .before .pre .3 .long)
+
 loop-holds : tie.Need-loop-holds Inv-loop μ-loop
-loop-holds c = (omega arith, c .before .before .before .pre .4, near-own _ _ _ _ (c .row .ensures))
+loop-holds c = (omega arith, half-root _ _ (c .before .before .before .before .pre .3), near-own _ _ _ _ (c .row .ensures))
 
--- src/nearness.rt:40:9
 add-d : tie.Need-add-d Inv-loop μ-loop
-add-d c = omega (arith, c .loop-test .taken, c .before .before .before .before .before .pre .4, root-small (c .before .before .before .before .before .args .q .0) (c .before .before .before .before .before .pre .2))
+add-d c = omega (arith, c .loop-test .taken, half-root _ _ (c .before .before .before .before .before .before .pre .3), root-small (c .before .before .before .before .before .before .args .q .0) (c .before .before .before .before .before .before .pre .2))
 
--- src/nearness.rt:41:9
 further-requires : tie.Need-further-requires Inv-loop μ-loop
-further-requires c κs = (omega arith, omega arith, omega arith, omega arith, omega (arith, c .loop-test .taken, c .before .before .before .before .before .pre .4, root-small (c .before .before .before .before .before .args .q .0) (c .before .before .before .before .before .pre .2)), reach-in (c .before .before .before .before .before .args .q .0) _ (omega (arith, c .loop-test .taken, c .before .before .before .before .before .pre .4)), c .before .before .before .before .before .pre .2, c .before .before .before .before .before .pre .3)
+further-requires c κs = (omega arith, omega arith, omega arith, omega arith, omega (arith, c .loop-test .taken, half-root _ _ (c .before .before .before .before .before .before .pre .3), root-small (c .before .before .before .before .before .before .args .q .0) (c .before .before .before .before .before .before .pre .2)), reach-in (c .before .before .before .before .before .before .args .q .0) _ (omega (arith, c .loop-test .taken, half-root _ _ (c .before .before .before .before .before .before .pre .3))), c .before .before .before .before .before .before .pre .2, c .before .before .before .before .before .before .pre .3)
 
--- src/nearness.rt:39:5
 loop-less : tie.Need-loop-less Inv-loop μ-loop
 loop-less c = omega (arith, c .before .loop-test .taken)
 
--- src/nearness.rt:39:5
 loop-again : tie.Need-loop-again Inv-loop μ-loop
 loop-again c =
     let e : c .before .before .loop .d + 1 - 1 ≡ c .before .before .loop .d = omega arith in
     (omega (arith, c .before .loop-test .taken), c .before .before .loop .inv .1, c .further .ensures (rw e (c .before .before .loop .inv .2)))
 
--- src/nearness.rt:43:34
 mul-t10 : tie.Need-mul-t10 Inv-loop μ-loop
-mul-t10 c = omega (arith, c .before .loop .inv .0, c .before .before .before .before .before .pre .4, root-small (c .before .before .before .before .before .args .q .0) (c .before .before .before .before .before .pre .2))
+mul-t10 c = omega (arith, c .before .loop .inv .0, half-root _ _ (c .before .before .before .before .before .before .pre .3), root-small (c .before .before .before .before .before .before .args .q .0) (c .before .before .before .before .before .before .pre .2))
 
--- src/nearness.rt:43:34
-shared-slice-read-t12 : tie.Need-shared-slice-read-t12 Inv-loop μ-loop
-shared-slice-read-t12 c = omega (arith, c .before .before .before .before .before .before .pre .3 .long, c .before .before .loop .inv .0, c .before .before .before .before .before .before .pre .4, root-small (c .before .before .before .before .before .before .args .q .0) (c .before .before .before .before .before .before .pre .2))
+shared-slice-read-t13 : tie.Need-shared-slice-read-t13 Inv-loop μ-loop
+shared-slice-read-t13 c = omega (arith, c .before .before .before .before .before .before .before .pre .3 .long, c .before .before .loop .inv .0, half-root _ _ (c .before .before .before .before .before .before .before .pre .3), root-small (c .before .before .before .before .before .before .before .args .q .0) (c .before .before .before .before .before .before .before .pre .2))
 
--- src/nearness.rt:43:5
 widen-requires : tie.Need-widen-requires Inv-loop μ-loop
-widen-requires c κs = omega (arith, half-is _ (c .before .before .loop .d) _ (c .before .before .before .before .before .before .pre .3) (reach-in (c .before .before .before .before .before .before .args .q .0) _ (omega (arith, c .before .before .loop .inv .0, c .before .before .before .before .before .before .pre .4))), half-max (c .before .before .before .before .before .before .args .q .0) (c .before .before .loop .d) (c .before .before .before .before .before .before .pre .2))
+widen-requires c κs = omega (arith, half-is _ (c .before .before .loop .d) _ (c .before .before .before .before .before .before .before .pre .3) (reach-in (c .before .before .before .before .before .before .before .args .q .0) _ (omega (arith, c .before .before .loop .inv .0, half-root _ _ (c .before .before .before .before .before .before .before .pre .3)))), half-max (c .before .before .before .before .before .before .before .args .q .0) (c .before .before .loop .d) (c .before .before .before .before .before .before .before .pre .2))
 
--- src/nearness.rt:32:1
 returns : tie.Need-returns Inv-loop μ-loop
 returns c =
-    let e : c .before .before .before .loop .d ≡ root (c .before .before .before .before .before .before .before .args .q .0) = omega (arith, c .before .before .before .loop .inv .0, c .before .before .before .before .before .before .before .pre .4, c .before .before .loop-test .left) in
-    let f = half-is _ (c .before .before .before .loop .d) _ (c .before .before .before .before .before .before .before .pre .3) (reach-in (c .before .before .before .before .before .before .before .args .q .0) _ (omega arith)) in
-    λ w h z fr ly. near-all w h (c .before .before .before .before .before .before .before .args .q .0) (c .before .before .before .before .before .before .before .args .y) (c .before .before .before .before .before .before .before .args .low .now) (column (c .before .before .before .loop .x)) (column (c .widen .result)) z fr ly (rw e at (c .before .before .before .loop .inv .2)) (rw (← e) (rw f at (c .widen .ensures)))
+    let e : c .before .before .before .loop .d ≡ root (c .before .before .before .before .before .before .before .before .args .q .0) = omega (arith, c .before .before .before .loop .inv .0, half-root _ _ (c .before .before .before .before .before .before .before .before .pre .3), c .before .before .loop-test .left) in
+    let f = half-is _ (c .before .before .before .loop .d) _ (c .before .before .before .before .before .before .before .before .pre .3) (reach-in (c .before .before .before .before .before .before .before .before .args .q .0) _ (omega arith)) in
+    λ w h z fr ly. near-all w h (c .before .before .before .before .before .before .before .before .args .q .0) (c .before .before .before .before .before .before .before .before .args .y) (c .before .before .before .before .before .before .before .before .args .low .now) (column (c .before .before .before .loop .x)) (column (c .widen .result)) z fr ly (rw e at (c .before .before .before .loop .inv .2)) (rw (← e) (rw f at (c .widen .ensures)))
 
 pub near-row-spec : {M : Type 1} → statement M
 near-row-spec =
     tie.close
-    (tie.spec Inv-loop μ-loop (λ c. search needs) (λ c κs. search needs) loop-holds add-d further-requires loop-less loop-again mul-t10
-    shared-slice-read-t12 widen-requires returns)
+    (tie.spec Inv-loop μ-loop shared-slice-read-reach (λ c. search needs) (λ c κs. search needs) loop-holds add-d further-requires loop-less loop-again mul-t10
+    shared-slice-read-t13 widen-requires returns)

@@ -10,7 +10,7 @@ returns : tie.Need-returns
 returns c = ((λ e k l f. clash f (c .before .any .ensures (not-out _ (c .if1 .taken)) k)), c .before .before .before .before .before .pre .1)
 
 near-row-requires : tie.Need-near-row-requires
-near-row-requires c κs = ((c .before .before .before .draw .ensures .ready .long, omega (arith, c .before .before .before .before .before .before .before .before .before .before .pre .0 .0 .1, c .before .before .before .before .before .before .before .before .before .before .pre .0 .0 .0 .h-high), c .before .before .before .before .before .before .before .before .before .before .pre .0 .1 .1 .1), c .before .before .before .before .before .before .before .before .before .before .pre .0 .1 .1 .0)
+near-row-requires c κs = (c .before .before .before .draw .ensures .ready .long, omega (arith, c .before .before .before .before .before .before .before .before .before .before .pre .0 .0 .1, c .before .before .before .before .before .before .before .before .before .before .pre .0 .0 .0 .h-high), c .before .before .before .before .before .before .before .before .before .before .pre .0 .1 .1 .1, c .before .before .before .before .before .before .before .before .before .before .pre .0 .1 .1 .0)
 
 returns-2 : tie.Need-returns-2
 returns-2 c =

@@ -1,13 +1,58 @@
-use Rattle.rings.specs.FarLaws.{half-root}
+use mathlib.Core.Path.{_≡_, refl, sym, _∙_}
+use Prim.Native.Nat.{_+_, _-_, _≤_}
+use lib.ListN.{length}
+use Rattle.waves.specs.Rows.{Upto}
+use Rattle.rings.specs.Landing.{nearBits}
+use Rattle.rings.specs.FarLaws.{drop-start, drop-more, drop-all, near-mid}
 use native.Mathlib.Omega.{arith}
 use borrow.Author.Needs.{needs}
 use Rattle.rings.proofs.far.drop_far.Statement.{statement}
 use Rattle.rings.proofs.far.drop_far.Tie as tie
 
-drop-rows-requires : tie.Need-drop-rows-requires
-drop-rows-requires c κs =
-    let p = c .before .before .before .before .before .before .pre in
-    (p .0, p .1, p .2, p .3, p .4, p .5, half-root _ _ (p .5))
+abbrev Inv-loop : tie.InvT-loop
+Inv-loop low left₀ ahead w h q half y₀ left y = (y ≤ h) × (length left ≡ length left₀) × Upto y (nearBits w h (q .0) low left₀) left₀ left
+
+abbrev μ-loop : tie.MeasureT-loop
+μ-loop low left₀ ahead w h q half y₀ left y = h - y
+
+shared-slice-read-y : tie.Need-shared-slice-read-y Inv-loop μ-loop
+shared-slice-read-y c = omega (arith, c .before .before .before .before .before .pre .1 .long)
+
+loop-holds : tie.Need-loop-holds Inv-loop μ-loop
+loop-holds c = (c .before .before .before .before .before .pre .1 .on 0 (omega arith) .1, refl, drop-start _ _ _ _ _ _ (c .before .before .before .before .before .pre .0) (c .before .before .before .before .before .pre .3))
+
+drop-row-requires : tie.Need-drop-row-requires Inv-loop μ-loop
+drop-row-requires c κs = (c .before .before .before .before .before .before .before .before .pre .2 .long, c .before .before .loop .inv .1 ∙ c .before .before .before .before .before .before .before .before .pre .3 .ready .long, omega (arith, c .before .before .before .before .before .before .before .before .pre .0 .h-max), c .before .before .before .before .before .before .before .before .pre .4, c .before .before .before .before .before .before .before .before .pre .5)
+
+add-y : tie.Need-add-y Inv-loop μ-loop
+add-y c = omega (arith, c .before .before .before .before .before .before .before .before .before .before .before .pre .0 .h-max)
+
+mul-y : tie.Need-mul-y Inv-loop μ-loop
+mul-y c = omega (arith, c .before .before .before .before .before .before .before .before .before .before .before .pre .0 .h-max)
+
+shared-slice-read-y-2 : tie.Need-shared-slice-read-y-2 Inv-loop μ-loop
+shared-slice-read-y-2 c = omega (arith, c .before .before .before .before .before .before .before .before .before .before .before .before .pre .1 .long, c .before .before .before .before .before .before .before .before .before .before .before .before .pre .0 .h-max)
+
+loop-less : tie.Need-loop-less Inv-loop μ-loop
+loop-less c = omega (arith, c .before .before .before .before .before .before .before .before .before .before .before .before .pre .1 .on (c .before .before .before .before .before .before .loop .y + 1) (omega arith))
+
+loop-again : tie.Need-loop-again Inv-loop μ-loop
+loop-again c =
+    let n = c .before .before .before .before .before .before .before .before .before .before .before .before .pre .1 .on (c .before .before .before .before .before .before .loop .y + 1) (omega arith) in (
+      n .1,
+      c .before .before .before .drop-row .kept .1 .0 ∙ c .before .before .before .before .before .before .loop .inv .1,
+      drop-more _ _ _ _ _ _ (c .before .before .before .before .before .before .before .before .before .before .before .before .pre .0) (c .before .before .before .before .before .before .before .before .before .before .before .before .pre .3) _ _ _ _ (omega arith) (omega arith) refl
+          (c .before .before .before .drop-row .ensures _ _ (c .before .before .before .before .before .before .before .before .before .before .before .before .pre .0) (c .before .before .before .before .before .before .before .before .before .before .before .before .pre .2 .framed) (near-mid _ _ _ _ _ _ _ (c .before .before .before .before .before .before .before .before .before .before .before .before .pre .3 .ready .framed) (c .before .before .before .before .before .before .loop .inv .2)) (omega arith)) (c .before .before .before .before .before .before .loop .inv .2),
+    )
+
+same-length : tie.Need-same-length Inv-loop μ-loop
+same-length c = c .before .loop .inv .1
+
+returns : tie.Need-returns Inv-loop μ-loop
+returns c = drop-all _ _ _ _ _ _ (c .before .before .before .before .before .before .before .pre .0) (c .before .before .before .before .before .before .before .pre .3) _ _ (omega arith) (c .before .loop .inv .2)
 
 pub drop-far-spec : {M : Type 1} → statement M
-drop-far-spec = tie.close (tie.spec (λ c. search needs) drop-rows-requires (λ c. search needs) (λ c. search needs))
+drop-far-spec =
+    tie.close
+    (tie.spec Inv-loop μ-loop shared-slice-read-y loop-holds drop-row-requires add-y mul-y shared-slice-read-y-2 loop-less loop-again
+    same-length returns)
