@@ -30,13 +30,17 @@ def make(path, pairs):
         text = text[:at] + new + text[at + len(old):]
     open(path, 'w', encoding='utf-8').write(text)
 
+def at_once(work, items):
+    """Each item with what `work` answers of it, as many at a time as there are processors, in order."""
+    with concurrent.futures.ThreadPoolExecutor(max_workers=min(4, os.cpu_count() or 1)) as pool:
+        yield from zip(items, pool.map(work, items))
+
 def try_all(kind, attempt, paths, work):
     """Tries each edit, as many at a time as there are processors; ends the program with the count as its last line."""
     failed = 0
-    with concurrent.futures.ThreadPoolExecutor(max_workers=min(4, os.cpu_count() or 1)) as pool:
-        for label, wrong, refused in pool.map(attempt, paths):
-            failed += wrong is not None
-            print(f'{kind}: {label}: ' + (f'FAILED, {wrong}' if wrong else refused), flush=True)
+    for _, (label, wrong, refused) in at_once(attempt, paths):
+        failed += wrong is not None
+        print(f'{kind}: {label}: ' + (f'FAILED, {wrong}' if wrong else refused), flush=True)
     if failed:
         print(f'the copies are in {work}')
     else:
