@@ -1,6 +1,6 @@
 -- What reading tells, written over the front of a buffer, element by element, as far as there is room.
 use mathlib.Core.Path.{_≡_, sym, ap, _∙_}
-use mathlib.Core.List.{List, [], _∷_, _++_, append-nil}
+use mathlib.Core.List.{List, [], _∷_, _++_}
 use Prim.Native.Nat.{ℕ, suc, _+_, _≤_, _<_}
 use native.Mathlib.Numerals.{add-one}
 use native.Mathlib.Omega.{arith}
@@ -36,7 +36,7 @@ filled-all room vs i e k = rw (e, take-all i vs (omega arith), take-all (length 
 abbrev pub toldWith : Layout → ℕ → List ℕ
 toldWith l x =
     l .settings .w ∷ l .settings .h ∷ l .settings .n ∷ l .settings .pitch .0 ∷ l .settings .overhang .0 ∷ x
-    ∷ l .first ∷ l .part ∷ l .support ∷ l .rings ∷ []
+    ∷ l .head ∷ l .part ∷ l .support ∷ l .rings ∷ []
 
 pub told-with : (l : Layout) (x : ℕ) → x ≡ bit (l .stored) → toldWith l x ≡ told l
 told-with l x e = rw e

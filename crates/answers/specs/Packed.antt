@@ -1,12 +1,11 @@
 -- The answers of the library for C: the number in the lowest 16 bits, 0 for none, and the values above it.
-use mathlib.Core.Path.{_≡_}
 use mathlib.Core.Bool.{cond}
 use mathlib.Core.List.{List, [], _∷_, _++_}
 use Prim.Native.Nat.{ℕ, _+_, _*_, _%_}
 use lib.ListN.{length, take, drop}
 use Rattle.rules.specs.Tools.{bit, answer}
 use Rattle.rules.specs.Images.{rowBytes, stackBytes}
-use Rattle.rules.specs.Jobs.{Job, headEnd, partEnd, settingsIn, storedIn, layoutOf}
+use Rattle.rules.specs.Jobs.{Job, settingsIn, storedIn, layoutOf}
 use Rattle.rules.specs.Calls.{readRefusal}
 use Rattle.rules.specs.declared.Micrometres.{Micrometres}
 use Rattle.rules.specs.declared.Settings.{Settings}
@@ -62,7 +61,7 @@ packWritten (NotWritten k) = k
 abbrev pub told : Layout → List ℕ
 told l =
     l .settings .w ∷ l .settings .h ∷ l .settings .n ∷ l .settings .pitch .0 ∷ l .settings .overhang .0 ∷ bit (l .stored)
-    ∷ l .first ∷ l .part ∷ l .support ∷ l .rings ∷ []
+    ∷ l .head ∷ l .part ∷ l .support ∷ l .rings ∷ []
 
 -- as many of them as there is room for, and all else as it was
 unfoldable pub toldIn : List ℕ → List ℕ → List ℕ

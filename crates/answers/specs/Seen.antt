@@ -1,6 +1,6 @@
 -- What a C caller sees of each answer, taken apart as include/kitegimlet.h does it, is what the call says: no two answers look the same.
-use mathlib.Core.Path.{_≡_, refl, sym, ap, _∙_}
-use mathlib.Core.Bool.{Bool, true, false, not, _&&_, cond}
+use mathlib.Core.Path.{_≡_, refl, ap, _∙_}
+use mathlib.Core.Bool.{Bool, true, false, not, cond}
 use mathlib.Core.List.{List, [], _∷_, _++_, append-nil}
 use Prim.Native.Nat.{ℕ, zero, suc, _+_, _-_, _*_, _/_, _%_, _≤_, _<_}
 use native.Mathlib.Nat.{mod-eq-of-lt, zero-mul, min-le-right}
@@ -10,12 +10,14 @@ use lib.Dec.{leb, ltb, eqb}
 use lib.ListN.{length, take, drop, length-take, drop-of-length-le}
 use lib.Seq.{take-at, drop-at}
 use borrow.Author.Tests.{ne-eqb, eqb-true, lt-ltb, le-ltb, leb-true, leb-false}
-use Rattle.rules.specs.Tools.{Case, refusal, answer, bit}
+use Rattle.rules.specs.Tools.{refusal, answer, bit}
 use Rattle.rules.specs.Images.{Stack, Rings, pixel, ringAt, rowBytes, stackBytes}
 use Rattle.rules.specs.Reach.{reachOf, boundOf}
 use Rattle.rules.specs.Judging.{overlap, badRing, unheld, verdictOf}
 use Rattle.rules.specs.Jobs.{Job, headEnd, partEnd, supportEnd, settingsIn, storedIn, partIn, supportIn, layoutOf, fileLength}
-use Rattle.rules.specs.Calls.{saysReached, saysPlanned, saysJudged, saysRead, saysCopied, saysWritten, reachCases, reachAnswer, settingCases, lengthCases, stackCases, bothCases, planCases, planRefusal, planAnswer, judgeCases, judgeAnswer, sectionCases, readCases, readRefusal, readAnswer, partAnswer, supportAnswer, copyCases, copyAnswer, writeCases, writeRefusal, writeAnswer}
+use Rattle.rules.specs.Calls.{saysReached, saysPlanned, saysJudged, saysRead, saysCopied, saysWritten, reachCases, reachAnswer, settingCases, lengthCases}
+use Rattle.rules.specs.Calls.{stackCases, bothCases, planCases, planRefusal, planAnswer, judgeCases, judgeAnswer, sectionCases, readCases, readRefusal}
+use Rattle.rules.specs.Calls.{readAnswer, partAnswer, supportAnswer, copyCases, copyAnswer, writeCases, writeRefusal, writeAnswer}
 use Rattle.rules.specs.Demands.{FirstAt}
 use Rattle.rules.specs.declared.Micrometres.{Micrometres}
 use Rattle.rules.specs.declared.Settings.{Settings}
@@ -28,7 +30,7 @@ use Rattle.rules.specs.declared.Judged.the-variants.{Refused as NotJudged, Refu
 use Rattle.rules.specs.declared.ReadJob.the-variants.{Job as IsJob, Refused as NotRead}
 use Rattle.rules.specs.declared.CopiedRings.the-variants.{Copied, Refused as NotCopied}
 use Rattle.rules.specs.declared.WrittenJob.the-variants.{Length, Refused as NotWritten}
-use Rattle.laws.specs.Tests.{split, and-l, and-r}
+use Rattle.laws.specs.Tests.{split}
 use Rattle.laws.specs.Refusals.{upTo, at-most, answer-refused}
 use Rattle.laws.specs.Limits.{Ranged, ranged, settable-out, stack-most}
 use Rattle.laws.specs.Demand1.{told-overlap, told-bad-ring, told-unheld}
@@ -229,8 +231,8 @@ unfolding bit
 told-says l = go (l .stored)
   where
     go : (b : Bool) →
-        0 ∷ l .settings .w ∷ l .settings .h ∷ l .settings .n ∷ l .settings .pitch .0 ∷ l .settings .overhang .0 ∷ bit b ∷ l .first ∷ l .part ∷ l .support ∷ l .rings ∷ []
-        ≡ 0 ∷ l .settings .w ∷ l .settings .h ∷ l .settings .n ∷ l .settings .pitch .0 ∷ l .settings .overhang .0 ∷ cond b 1 0 ∷ l .first ∷ l .part ∷ l .support ∷ l .rings ∷ []
+        0 ∷ l .settings .w ∷ l .settings .h ∷ l .settings .n ∷ l .settings .pitch .0 ∷ l .settings .overhang .0 ∷ bit b ∷ l .head ∷ l .part ∷ l .support ∷ l .rings ∷ []
+        ≡ 0 ∷ l .settings .w ∷ l .settings .h ∷ l .settings .n ∷ l .settings .pitch .0 ∷ l .settings .overhang .0 ∷ cond b 1 0 ∷ l .head ∷ l .part ∷ l .support ∷ l .rings ∷ []
     go true = refl
     go false = refl
 

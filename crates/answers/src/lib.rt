@@ -22,18 +22,12 @@ fn above(v: usize) -> usize
     v % 281474976710656 * 65536
 }
 
-pub fn wide(k: u8) -> usize
-    ensures { λ r. ⌜ (r ≡ k) × (r < 256) ⌝ }
-{
-    k as usize
-}
-
 pub fn pack_reached(r: Reached) -> usize
     ensures { λ k. ⌜ k ≡ packReached r ⌝ }
 {
     match r {
         Reached::By(p) => above(p.0),
-        Reached::Refused(k) => wide(k),
+        Reached::Refused(k) => numbers::wide(k),
     }
 }
 
@@ -42,7 +36,7 @@ pub fn pack_planned(p: Planned) -> usize
 {
     match p {
         Planned::Done => 0,
-        Planned::Refused(k) => wide(k),
+        Planned::Refused(k) => numbers::wide(k),
     }
 }
 
@@ -51,9 +45,9 @@ pub fn pack_judged(j: Judged) -> usize
 {
     match j {
         Judged::Accepted => 0,
-        Judged::Refused(k) => wide(k),
+        Judged::Refused(k) => numbers::wide(k),
         Judged::RefusedAt(k, at) => {
-            wide(k)
+            numbers::wide(k)
                 + at.layer % 65536 * 65536
                 + at.row % 65536 * 4294967296
                 + at.column % 65536 * 281474976710656
@@ -66,7 +60,7 @@ pub fn pack_copied(c: CopiedRings) -> usize
 {
     match c {
         CopiedRings::Copied => 0,
-        CopiedRings::Refused(k) => wide(k),
+        CopiedRings::Refused(k) => numbers::wide(k),
     }
 }
 
@@ -75,7 +69,7 @@ pub fn pack_written(w: WrittenJob) -> usize
 {
     match w {
         WrittenJob::Length(n) => above(n),
-        WrittenJob::Refused(k) => wide(k),
+        WrittenJob::Refused(k) => numbers::wide(k),
     }
 }
 
@@ -98,7 +92,7 @@ fn flag(b: bool) -> usize
 }
 
 // Writes what reading tells, as much as there is room for.
-pub fn tell(l: Layout, room: &mut [usize])
+pub fn write_layout(l: Layout, room: &mut [usize])
     ensures { λ _. ⌜ now (room .exit) ≡ take (length (now (room .entry))) (told l) ++ drop (length (told l)) (now (room .entry)) ⌝ }
 {
     let s = l.settings;
@@ -110,7 +104,7 @@ pub fn tell(l: Layout, room: &mut [usize])
         s.pitch.0 as usize,
         s.overhang.0 as usize,
         stored,
-        l.first,
+        l.head,
         l.part,
         l.support,
         l.rings,

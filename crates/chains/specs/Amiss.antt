@@ -1,5 +1,5 @@
 -- What the searches look for, one definition for both: a bad ring, or an unheld pixel.
-use mathlib.Core.Path.{_≡_, refl, sym, ap, _∙_}
+use mathlib.Core.Path.{_≡_, refl, ap, _∙_}
 use mathlib.Core.Bool.{Bool, true, false}
 use mathlib.Core.List.{List}
 use Prim.Native.Nat.{ℕ, _+_, _-_, _*_, _<_, _≤_}
@@ -14,8 +14,8 @@ use Rattle.words.specs.Words.{Within}
 use Rattle.planes.specs.Scratch.{Sizes, Framed, Drawn, seen}
 use Rattle.places.specs.Planes.{cut, bad-plane, unheld-plane}
 use Rattle.places.specs.Rows.{lower-length, upper-length, rings-length}
-use Rattle.quick.specs.Sound.{Whole, Long}
-use Rattle.quick.specs.Holding.{put-four}
+use Rattle.quick.specs.Sureness.{Whole, Long}
+use Rattle.quick.specs.RowsOfPair.{put-four}
 use Rattle.quick.specs.Layers.{sizes-of, near-drawn}
 use Rattle.quick.specs.declared.Sure.{Sure}
 
@@ -78,7 +78,8 @@ module _ (w h n i rb at x : ℕ) (part sup rings : List ℕ) (W : Whole w h n pa
   bytes-is : h * rb ≡ h * rowBytes w
   bytes-is = ap (λ (b : ℕ). h * b) er
 
-  pub pair-planes : Planes w h (cut at (at + h * rb) part) (cut (at + h * rb) (at + h * rb + h * rb) part) (cut at (at + h * rb) sup) (cut (at + h * rb) (at + h * rb + h * rb) sup) (cut x (x + h * w) rings)
+  pub pair-planes : Planes w h (cut at (at + h * rb) part) (cut (at + h * rb) (at + h * rb + h * rb) part) (cut at (at + h * rb) sup) (cut (at + h * rb) (at + h * rb + h * rb) sup)
+      (cut x (x + h * w) rings)
   pair-planes =
       let li : i < n - 1 = omega arith in
       record {
@@ -90,7 +91,8 @@ module _ (w h n i rb at x : ℕ) (part sup rings : List ℕ) (W : Whole w h n pa
       }
 
   pub amiss-pair : (ringed : Bool) (q p : ℕ) → p < h * w → flat w h (amissIn ringed w h q part sup rings) (x + p)
-      ≡ amissHere ringed w h q (cut at (at + h * rb) part) (cut (at + h * rb) (at + h * rb + h * rb) part) (cut at (at + h * rb) sup) (cut (at + h * rb) (at + h * rb + h * rb) sup) (cut x (x + h * w) rings) p
+      ≡ amissHere ringed w h q (cut at (at + h * rb) part) (cut (at + h * rb) (at + h * rb + h * rb) part) (cut at (at + h * rb) sup) (cut (at + h * rb) (at + h * rb + h * rb) sup)
+      (cut x (x + h * w) rings) p
   unfolding amissIn amissHere
   amiss-pair true q p lp = bad-plane w h i (h * rb) (h * w) at x (at + h * rb) (at + h * rb + h * rb) (x + h * w) bytes-is refl ea ex refl refl refl (λ (j : ℕ). q) q part rings refl p lp
   amiss-pair false q p lp = unheld-plane w h i (h * rb) (h * w) at x (at + h * rb) (at + h * rb + h * rb) (x + h * w) bytes-is refl ea ex refl refl refl part sup rings p lp

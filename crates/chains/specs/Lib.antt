@@ -1,4 +1,4 @@
 -- What the contracts cite.
 pub mod Amiss
 -- Laws about it.
-pub mod Eight
+pub mod NeighbourLaws

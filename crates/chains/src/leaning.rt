@@ -59,10 +59,10 @@ pub fn touches(
     requires own { ⌜ k ≡ getD (now rings) (r * w + c) 0 ⌝ }
     ensures { λ b. ⌜ b ≡ touching (h * w) (touch w) (lender w (now (low .entry)) (now (up .entry)) (now (rings .entry)) k) (r * w + c) ⌝ }
 {
-    let top = places::bits::less(r, 1);
-    let bottom = places::bits::smaller(r + 2, h);
-    let left = places::bits::less(c, 1);
-    let right = places::bits::smaller(c + 2, w);
+    let top = numbers::less(r, 1);
+    let bottom = numbers::lesser(r + 2, h);
+    let left = numbers::less(c, 1);
+    let right = numbers::lesser(c + 2, w);
     let mut found = false;
     'rows: for y in top..bottom {
         for x in left..right {

@@ -22,7 +22,8 @@ fn bad(
 ) -> bool
     requires fits { ⌜ Sized w h × ((r < h) × (c < w)) ⌝ }
     requires planes { ⌜ Planes w h (now low) (now up) (now low) (now up) (now rings) × (length (now close) ≡ 4) ⌝ }
-    ensures { λ b. ⌜ ((q : ℕ) → wordBit (now (close .entry)) c ≡ near w h q (packed w (now (low .entry))) (r * w + c) → b ≡ badHere w h q (packed w (now (low .entry))) (packed w (now (up .entry))) (λ o. getD (now (rings .entry)) o 0) (r * w + c)) ⌝ }
+    ensures { λ b. ⌜ ((q : ℕ) → wordBit (now (close .entry)) c ≡ near w h q (packed w (now (low .entry))) (r * w + c) →
+        b ≡ badHere w h q (packed w (now (low .entry))) (packed w (now (up .entry))) (λ o. getD (now (rings .entry)) o 0) (r * w + c)) ⌝ }
 {
     let k = rings[r * w + c];
     if k == 0 {
@@ -55,7 +56,8 @@ fn unheld(
 ) -> bool
     requires fits { ⌜ Sized w h × ((r < h) × (c < w)) ⌝ }
     requires planes { ⌜ Planes w h (now low) (now up) (now below) (now above) (now rings) ⌝ }
-    ensures { λ b. ⌜ b ≡ unheldHere (packed w (now (low .entry))) (packed w (now (up .entry))) (packed w (now (below .entry))) (packed w (now (above .entry))) (λ o. getD (now (rings .entry)) o 0) (r * w + c) ⌝ }
+    ensures { λ b. ⌜ b ≡ unheldHere (packed w (now (low .entry))) (packed w (now (up .entry))) (packed w (now (below .entry))) (packed w (now (above .entry))) (λ o. getD (now (rings .entry)) o 0)
+        (r * w + c) ⌝ }
 {
     if rings[r * w + c] != 0 {
         return false;
@@ -89,7 +91,8 @@ pub fn amiss(
 ) -> bool
     requires fits { ⌜ Sized w h × ((r < h) × (c < w)) ⌝ }
     requires planes { ⌜ Planes w h (now low) (now up) (now below) (now above) (now rings) × (length (now close) ≡ 4) ⌝ }
-    ensures { λ b. ⌜ ((q : ℕ) → wordBit (now (close .entry)) c ≡ near w h q (packed w (now (low .entry))) (r * w + c) → b ≡ amissHere ringed w h q (now (low .entry)) (now (up .entry)) (now (below .entry)) (now (above .entry)) (now (rings .entry)) (r * w + c)) ⌝ }
+    ensures { λ b. ⌜ ((q : ℕ) → wordBit (now (close .entry)) c ≡ near w h q (packed w (now (low .entry))) (r * w + c) →
+        b ≡ amissHere ringed w h q (now (low .entry)) (now (up .entry)) (now (below .entry)) (now (above .entry)) (now (rings .entry)) (r * w + c)) ⌝ }
 {
     if ringed {
         return bad(low, up, rings, close, w, h, r, c);

@@ -10,8 +10,8 @@ ghost use Rattle.laws.specs.Discs.{Halves};
 ghost use Rattle.image.specs.Rows.{packed, Clean};
 ghost use Rattle.words.specs.Words.{wordBit, Ones};
 ghost use Rattle.planes.specs.Scratch.{Drawn};
-ghost use Rattle.places.specs.Search.{Least, flat, Sized};
-ghost use Rattle.quick.specs.Sound.{Whole};
+ghost use Rattle.places.specs.Search.{FirstOf, flat, Sized};
+ghost use Rattle.quick.specs.Sureness.{Whole};
 ghost use Rattle.chains.specs.Amiss.{amissHere, amissIn, sureOf, Planes};
 
 // The first of a row, whose near pixels are those of `close`.
@@ -29,7 +29,8 @@ fn in_columns(
 ) -> usize
     requires fits { ⌜ Sized w h × (r < h) ⌝ }
     requires planes { ⌜ Planes w h (now low) (now up) (now below) (now above) (now rings) × (length (now close) ≡ 4) ⌝ }
-    ensures { λ s. ⌜ ((q : ℕ) → ((c : ℕ) → c < w → wordBit (now (close .entry)) c ≡ near w h q (packed w (now (low .entry))) (r * w + c)) → Least 0 w (λ c. amissHere ringed w h q (now (low .entry)) (now (up .entry)) (now (below .entry)) (now (above .entry)) (now (rings .entry)) (r * w + c)) s) ⌝ }
+    ensures { λ s. ⌜ ((q : ℕ) → ((c : ℕ) → c < w → wordBit (now (close .entry)) c ≡ near w h q (packed w (now (low .entry))) (r * w + c)) →
+        FirstOf 0 w (λ c. amissHere ringed w h q (now (low .entry)) (now (up .entry)) (now (below .entry)) (now (above .entry)) (now (rings .entry)) (r * w + c)) s) ⌝ }
 {
     let mut c = 0;
     while c < w {
@@ -59,7 +60,7 @@ fn in_row(
     requires fits { ⌜ (Sized w h × (r < h)) × (q .0 ≤ 1024) ⌝ }
     requires planes { ⌜ Planes w h (now low) (now up) (now below) (now above) (now rings) × Drawn w h (packed w (now low)) (now disc) ⌝ }
     requires table { ⌜ Halves (q .0) (now halves) ⌝ }
-    ensures { λ s. ⌜ Least 0 w (λ c. amissHere ringed w h (q .0) (now (low .entry)) (now (up .entry)) (now (below .entry)) (now (above .entry)) (now (rings .entry)) (r * w + c)) s ⌝ }
+    ensures { λ s. ⌜ FirstOf 0 w (λ c. amissHere ringed w h (q .0) (now (low .entry)) (now (up .entry)) (now (below .entry)) (now (above .entry)) (now (rings .entry)) (r * w + c)) s ⌝ }
 {
     let mut close = [0u64; 4];
     words::rows::put(
@@ -87,7 +88,7 @@ fn in_rows(
     requires fits { ⌜ Sized w h × (q .0 ≤ 1024) ⌝ }
     requires planes { ⌜ Planes w h (now low) (now up) (now below) (now above) (now rings) × Drawn w h (packed w (now low)) (now disc) ⌝ }
     requires table { ⌜ Halves (q .0) (now halves) ⌝ }
-    ensures { λ s. ⌜ Least 0 (h * w) (amissHere ringed w h (q .0) (now (low .entry)) (now (up .entry)) (now (below .entry)) (now (above .entry)) (now (rings .entry))) s ⌝ }
+    ensures { λ s. ⌜ FirstOf 0 (h * w) (amissHere ringed w h (q .0) (now (low .entry)) (now (up .entry)) (now (below .entry)) (now (above .entry)) (now (rings .entry))) s ⌝ }
 {
     let mut x = 0;
     let mut r = 0;
@@ -138,7 +139,7 @@ fn in_pair(
 ) -> usize
     requires fits { ⌜ (Sized w h × ((2 * (t * t) ≤ q .0) × (q .0 ≤ 1024))) × Clean w h (now low) ⌝ }
     requires planes { ⌜ Planes w h (now low) (now up) (now below) (now above) (now rings) × (Ones (now ones) × Halves (q .0) (now halves)) ⌝ }
-    ensures { λ s. ⌜ Least 0 (h * w) (amissHere ringed w h (q .0) (now (low .entry)) (now (up .entry)) (now (below .entry)) (now (above .entry)) (now (rings .entry))) s ⌝ }
+    ensures { λ s. ⌜ FirstOf 0 (h * w) (amissHere ringed w h (q .0) (now (low .entry)) (now (up .entry)) (now (below .entry)) (now (above .entry)) (now (rings .entry))) s ⌝ }
 {
     let s = quick::pair::pair(low, up, below, above, rings, ones, halves, w, h, q, t);
     if sure(s, ringed) {
@@ -165,7 +166,7 @@ fn in_pairs(
 ) -> usize
     requires fits { ⌜ Whole w h n (now part) (now sup) (now rings) ⌝ }
     requires scratch { ⌜ (Ones (now ones) × Halves (q .0) (now halves)) × ((2 * (t * t) ≤ q .0) × (q .0 ≤ 1024)) ⌝ }
-    ensures { λ s. ⌜ Least 0 ((n - 1) * (h * w)) (flat w h (amissIn ringed w h (q .0) (now (part .entry)) (now (sup .entry)) (now (rings .entry)))) s ⌝ }
+    ensures { λ s. ⌜ FirstOf 0 ((n - 1) * (h * w)) (flat w h (amissIn ringed w h (q .0) (now (part .entry)) (now (sup .entry)) (now (rings .entry)))) s ⌝ }
 {
     let bytes = h * limits::row_bytes(w);
     let area = h * w;
@@ -212,7 +213,7 @@ pub fn first(
     ringed: bool,
 ) -> usize
     requires { ⌜ Whole w h n (now part) (now sup) (now rings) × (q .0 ≤ 1024) ⌝ }
-    ensures { λ s. ⌜ Least 0 ((n - 1) * (h * w)) (flat w h (amissIn ringed w h (q .0) (now (part .entry)) (now (sup .entry)) (now (rings .entry)))) s ⌝ }
+    ensures { λ s. ⌜ FirstOf 0 ((n - 1) * (h * w)) (flat w h (amissIn ringed w h (q .0) (now (part .entry)) (now (sup .entry)) (now (rings .entry)))) s ⌝ }
 {
     let mut ones = [0u16; 2048];
     words::ones::fill(&mut ones);

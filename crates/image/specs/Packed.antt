@@ -82,7 +82,8 @@ module _ (w h : ℕ) where
       let lb′ : b < h * rowBytes w = omega (arith, cl .long) in
       let (lr, lj) = digits-in b h (rowBytes w) lb′ in
       sym (getD-each 0 (1 * h * rowBytes w) g b 0 (omega arith) ∙ ap g (zero-add b)
-      ∙ byte-by-bits (λ i. f) (b / rowBytes w) (b % rowBytes w) (getD s b 0) (small b) (λ k d e. bits b (b / rowBytes w) (b % rowBytes w) lr lj (div-add-mod' b (rowBytes w)) k d e) 8 0 refl ∙ div-one (getD s b 0)))
+      ∙ byte-by-bits (λ i. f) (b / rowBytes w) (b % rowBytes w) (getD s b 0) (small b) (λ k d e. bits b (b / rowBytes w) (b % rowBytes w) lr lj (div-add-mod' b (rowBytes w)) k d e) 8 0 refl
+      ∙ div-one (getD s b 0)))
     where
       bits : (b row j : ℕ) → row < h → j < rowBytes w → row * rowBytes w + j ≡ b → (k d : ℕ) → k + suc d ≡ 8 → bit (ltb (8 * j + k) w && f (row % h * w + (8 * j + k))) ≡ getD s b 0 / 2 ^ d % 2
       bits b row j lr lj eb k d e =

@@ -19,42 +19,53 @@ use Rattle.rules.specs.declared.Judged.the-variants.{Accepted, Refused, Refused
 use Rattle.laws.specs.Refusals.{says-no, says-yes}
 use Rattle.laws.specs.Limits.{Ranged, ranged}
 use Rattle.laws.specs.StackTables.{both-exactly}
-use Rattle.places.specs.Search.{Least, flat, Sized}
+use Rattle.places.specs.Search.{FirstOf, flat, Sized}
 use Rattle.places.specs.Finding.{least-found, least-nothing, least-none}
-use Rattle.quick.specs.Sound.{Whole, Fine}
+use Rattle.quick.specs.Sureness.{Whole, Fine}
 use Rattle.chains.specs.Amiss.{amissIn}
 
 -- The verdict -------------------------------------------------------------------------------------------------------------
 
-found-in : (w h n : ℕ) (f : Stack) (r : ℕ) → Least 0 (n * (h * w)) (flat w h f) r → r < n * (h * w) → firstIn w h n f ≡ found r
+found-in : (w h n : ℕ) (f : Stack) (r : ℕ) → FirstOf 0 (n * (h * w)) (flat w h f) r → r < n * (h * w) → firstIn w h n f ≡ found r
 unfolding firstIn flat
 found-in w h n f r s l = least-found (n * (h * w)) (flat w h f) r s l
 
-none-in : (w h n : ℕ) (f : Stack) (r : ℕ) → Least 0 (n * (h * w)) (flat w h f) r → n * (h * w) ≤ r → firstIn w h n f ≡ nothing
+none-in : (w h n : ℕ) (f : Stack) (r : ℕ) → FirstOf 0 (n * (h * w)) (flat w h f) r → n * (h * w) ≤ r → firstIn w h n f ≡ nothing
 unfolding firstIn flat
 none-in w h n f r s l = least-nothing (n * (h * w)) (flat w h f) r s l
 
-module _ (w h n : ℕ) (q : ℕ → ℕ) (part sup rings : List ℕ) (o : ℕ) (so : Least 0 (n * (h * w)) (flat w h (overlap (pixel w h part) (pixel w h sup))) o) where
+module _ (w h n : ℕ) (q : ℕ → ℕ) (part sup rings : List ℕ) (o : ℕ) (so : FirstOf 0 (n * (h * w)) (flat w h (overlap (pixel w h part) (pixel w h sup))) o) where
   pub told-9 : o < n * (h * w) → (r : Place) → r ≡ placeOf w h 0 o → RefusedAt 9 r ≡ verdictOf w h n q part sup rings
   unfolding verdictOf verdict tell
   told-9 l r e = rw (found-in w h n (overlap (pixel w h part) (pixel w h sup)) o so l, e)
 
-  module _ (no : n * (h * w) ≤ o) (b : ℕ) (sb : Least 0 ((n - 1) * (h * w)) (flat w h (badRing w h q (pixel w h part) (ringAt w h rings))) b) where
+  module _ (no : n * (h * w) ≤ o) (b : ℕ) (sb : FirstOf 0 ((n - 1) * (h * w)) (flat w h (badRing w h q (pixel w h part) (ringAt w h rings))) b) where
     pub told-10 : b < (n - 1) * (h * w) → (r : Place) → r ≡ placeOf w h 1 b → RefusedAt 10 r ≡ verdictOf w h n q part sup rings
     unfolding verdictOf verdict tell
     told-10 l r e =
         rw (none-in w h n (overlap (pixel w h part) (pixel w h sup)) o so no, found-in w h (n - 1) (badRing w h q (pixel w h part) (ringAt w h rings)) b sb l, e)
 
-    module _ (nb : (n - 1) * (h * w) ≤ b) (u : ℕ) (su : Least 0 ((n - 1) * (h * w)) (flat w h (unheld (pixel w h part) (pixel w h sup) (ringAt w h rings))) u) where
+    module _ (nb : (n - 1) * (h * w) ≤ b) (u : ℕ) (su : FirstOf 0 ((n - 1) * (h * w)) (flat w h (unheld (pixel w h part) (pixel w h sup) (ringAt w h rings))) u) where
       pub told-11 : u < (n - 1) * (h * w) → (r : Place) → r ≡ placeOf w h 1 u → RefusedAt 11 r ≡ verdictOf w h n q part sup rings
       unfolding verdictOf verdict tell
       told-11 l r e =
-          rw (none-in w h n (overlap (pixel w h part) (pixel w h sup)) o so no, none-in w h (n - 1) (badRing w h q (pixel w h part) (ringAt w h rings)) b sb nb, found-in w h (n - 1) (unheld (pixel w h part) (pixel w h sup) (ringAt w h rings)) u su l, e)
+          rw (
+            none-in w h n (overlap (pixel w h part) (pixel w h sup)) o so no,
+            none-in w h (n - 1) (badRing w h q (pixel w h part) (ringAt w h rings)) b sb nb,
+            found-in w h (n - 1)
+                (unheld (pixel w h part) (pixel w h sup) (ringAt w h rings)) u su l,
+            e,
+          )
 
       pub told-accepted : (n - 1) * (h * w) ≤ u → Accepted ≡ verdictOf w h n q part sup rings
       unfolding verdictOf verdict tell
       told-accepted l =
-          rw (none-in w h n (overlap (pixel w h part) (pixel w h sup)) o so no, none-in w h (n - 1) (badRing w h q (pixel w h part) (ringAt w h rings)) b sb nb, none-in w h (n - 1) (unheld (pixel w h part) (pixel w h sup) (ringAt w h rings)) u su l)
+          rw (
+            none-in w h n (overlap (pixel w h part) (pixel w h sup)) o so no,
+            none-in w h (n - 1) (badRing w h q (pixel w h part) (ringAt w h rings)) b sb nb,
+            none-in w h (n - 1)
+                (unheld (pixel w h part) (pixel w h sup) (ringAt w h rings)) u su l,
+          )
 
 -- The call ----------------------------------------------------------------------------------------------------------------
 
@@ -99,7 +110,8 @@ verdict-ready s part sup rings e =
     (ranged s (v .settings), (l .part-long, (l .support-long, (v .part-clear, l .ring-count))))
 
 -- the stack, as the searches take it
-pub whole-of : (s : Settings) (part sup rings : List ℕ) → Ranged s × ((length part ≡ stackBytes s) × ((length sup ≡ stackBytes s) × ((paddingSet (s .w) (rowsOf s) part ≡ false) × (length rings ≡ ringsIn s))))
+pub whole-of : (s : Settings) (part sup rings : List ℕ) → Ranged s
+    × ((length part ≡ stackBytes s) × ((length sup ≡ stackBytes s) × ((paddingSet (s .w) (rowsOf s) part ≡ false) × (length rings ≡ ringsIn s))))
     → Whole (s .w) (s .h) (s .n) part sup rings
 unfolding stackBytes rowsOf ringsIn
 whole-of s part sup rings (r, (p, (u, (e, l)))) =
@@ -107,19 +119,19 @@ whole-of s part sup rings (r, (p, (u, (e, l)))) =
 
 -- what the searches look for is what the rules call bad, or unheld
 module _ (s : Settings) (q : ℕ) (part sup rings : List ℕ) (e : boundOf s ≡ (λ (i : ℕ). q)) (r : ℕ) where
-  pub first-bad : Least 0 ((s .n - 1) * (s .h * s .w)) (flat (s .w) (s .h) (amissIn true (s .w) (s .h) q part sup rings)) r
-      → Least 0 ((s .n - 1) * (s .h * s .w)) (flat (s .w) (s .h) (badRing (s .w) (s .h) (boundOf s) (pixel (s .w) (s .h) part) (ringAt (s .w) (s .h) rings))) r
+  pub first-bad : FirstOf 0 ((s .n - 1) * (s .h * s .w)) (flat (s .w) (s .h) (amissIn true (s .w) (s .h) q part sup rings)) r
+      → FirstOf 0 ((s .n - 1) * (s .h * s .w)) (flat (s .w) (s .h) (badRing (s .w) (s .h) (boundOf s) (pixel (s .w) (s .h) part) (ringAt (s .w) (s .h) rings))) r
   unfolding amissIn
   first-bad l = rw e l
 
-  pub first-unheld : Least 0 ((s .n - 1) * (s .h * s .w)) (flat (s .w) (s .h) (amissIn false (s .w) (s .h) q part sup rings)) r
-      → Least 0 ((s .n - 1) * (s .h * s .w)) (flat (s .w) (s .h) (unheld (pixel (s .w) (s .h) part) (pixel (s .w) (s .h) sup) (ringAt (s .w) (s .h) rings))) r
+  pub first-unheld : FirstOf 0 ((s .n - 1) * (s .h * s .w)) (flat (s .w) (s .h) (amissIn false (s .w) (s .h) q part sup rings)) r
+      → FirstOf 0 ((s .n - 1) * (s .h * s .w)) (flat (s .w) (s .h) (unheld (pixel (s .w) (s .h) part) (pixel (s .w) (s .h) sup) (ringAt (s .w) (s .h) rings))) r
   unfolding amissIn
   first-unheld l = l
 
 -- where the quick test is sure there is nothing to tell
 pub told-sure : (s : Settings) (q : ℕ) (part sup rings : List ℕ) (o : ℕ) → boundOf s ≡ (λ (i : ℕ). q)
-    → Least 0 (s .n * (s .h * s .w)) (flat (s .w) (s .h) (overlap (pixel (s .w) (s .h) part) (pixel (s .w) (s .h) sup))) o → s .n * (s .h * s .w) ≤ o
+    → FirstOf 0 (s .n * (s .h * s .w)) (flat (s .w) (s .h) (overlap (pixel (s .w) (s .h) part) (pixel (s .w) (s .h) sup))) o → s .n * (s .h * s .w) ≤ o
     → ((x : ℕ) → x < (s .n - 1) * (s .h * s .w) → Fine (s .w) (s .h) q part sup rings x) → Accepted ≡ verdictOf (s .w) (s .h) (s .n) (boundOf s) part sup rings
 told-sure s q part sup rings o e so n fine =
     let m : ℕ = (s .n - 1) * (s .h * s .w) in

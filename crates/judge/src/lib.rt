@@ -27,7 +27,8 @@ fn place_of(x: usize, w: usize, h: usize, up: usize) -> Place
 // What is found in a stack that is not refused: overlap anywhere before any bad ring, and any bad ring before any unheld pixel.
 // Most stacks are accepted by the quick test; only where it is not sure the two searches are made.
 fn verdict(s: Settings, part: &[u8], support: &[u8], rings: &[u16]) -> Judged
-    requires { ⌜ Ranged s × ((length (now part) ≡ stackBytes s) × ((length (now support) ≡ stackBytes s) × ((paddingSet (s .w) (rowsOf s) (now part) ≡ false) × (length (now rings) ≡ ringsIn s)))) ⌝ }
+    requires { ⌜ Ranged s × ((length (now part) ≡ stackBytes s)
+        × ((length (now support) ≡ stackBytes s) × ((paddingSet (s .w) (rowsOf s) (now part) ≡ false) × (length (now rings) ≡ ringsIn s)))) ⌝ }
     ensures { λ r. ⌜ r ≡ verdictOf (s .w) (s .h) (s .n) (boundOf s) (now (part .entry)) (now (support .entry)) (now (rings .entry)) ⌝ }
 {
     let w = s.w;

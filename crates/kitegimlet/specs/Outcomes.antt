@@ -57,7 +57,8 @@ pub record KgPlans (s : Settings) (part sup ring : List ℕ) (r : ℕ) (sup′ r
 pub kg-plan-settled : (s : Settings) (part sup ring : List ℕ) (r q : ℕ) (a b c d : List ℕ) → KgPlans s part sup ring r a b → KgPlans s part sup ring q c d → (r ≡ q) × (a ≡ c) × (b ≡ d)
 kg-plan-settled s part sup ring r q a b c d x y = (x .answer ∙ sym (y .answer), x .support ∙ sym (y .support), x .rings ∙ sym (y .rings))
 
-pub plan-packed : (s t : Settings) (part sup ring : List ℕ) (r : ℕ) (a : Planned) (sup′ ring′ : List ℕ) → s ≡ t → Plans s part sup ring a sup′ ring′ → r ≡ packPlanned a → KgPlans t part sup ring r sup′ ring′
+pub plan-packed : (s t : Settings) (part sup ring : List ℕ) (r : ℕ) (a : Planned) (sup′ ring′ : List ℕ) → s ≡ t → Plans s part sup ring a sup′ ring′ → r ≡ packPlanned a →
+    KgPlans t part sup ring r sup′ ring′
 plan-packed s t part sup ring r a sup′ ring′ same x e =
     let k : KgPlans s part sup ring r sup′ ring′ = record { answer = e ∙ ap packPlanned (x .answer); support = x .support; rings = x .rings } in
     rw same at k
@@ -92,7 +93,8 @@ pub record KgWrites (j : Job) (out : List ℕ) (r : ℕ) (out′ : List ℕ) : T
 pub kg-write-settled : (j : Job) (out : List ℕ) (r q : ℕ) (a b : List ℕ) → KgWrites j out r a → KgWrites j out q b → (r ≡ q) × (a ≡ b)
 kg-write-settled j out r q a b x y = (x .answer ∙ sym (y .answer), x .destination ∙ sym (y .destination))
 
-pub write-packed : (s t : Settings) (part sup ring out : List ℕ) (r : ℕ) (a : WrittenJob) (out′ : List ℕ) → s ≡ t → Writes (jobOf s part sup ring) out a out′ → r ≡ packWritten a → KgWrites (jobOf t part sup ring) out r out′
+pub write-packed : (s t : Settings) (part sup ring out : List ℕ) (r : ℕ) (a : WrittenJob) (out′ : List ℕ) → s ≡ t → Writes (jobOf s part sup ring) out a out′ → r ≡ packWritten a →
+    KgWrites (jobOf t part sup ring) out r out′
 write-packed s t part sup ring out r a out′ same x e =
     let k : KgWrites (jobOf s part sup ring) out r out′ = record { answer = e ∙ ap packWritten (x .answer); destination = x .destination } in
     rw same at k

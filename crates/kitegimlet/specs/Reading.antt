@@ -1,12 +1,12 @@
 -- What the answer of reading says of a file, and the stretches that it tells.
 use mathlib.Core.Path.{_≡_, sym, ap, _∙_}
-use mathlib.Core.Bool.{Bool, true, false, cond}
+use mathlib.Core.Bool.{cond}
 use mathlib.Core.List.{List, _++_}
 use Prim.Native.Nat.{ℕ, _+_, _-_, _*_, _≤_}
 use native.Mathlib.Omega.{arith}
 use lib.ListN.{length, take, drop}
 use Rattle.rules.specs.Images.{rowBytes, stackBytes}
-use Rattle.rules.specs.Jobs.{headEnd, partEnd, supportEnd, settingsIn, storedIn, layoutOf}
+use Rattle.rules.specs.Jobs.{partEnd, supportEnd, settingsIn, storedIn, layoutOf}
 use Rattle.rules.specs.Calls.{readRefusal}
 use Rattle.rules.specs.Outcomes.{Reads}
 use Rattle.rules.specs.declared.Layout.{Layout}

@@ -62,10 +62,10 @@ pub extern "C" fn kg_read(file: &[u8], room: &mut [usize]) -> usize
 {
     match read(file) {
         ReadJob::Job(l) => {
-            answers::tell(l, room);
+            answers::write_layout(l, room);
             0
         }
-        ReadJob::Refused(k) => answers::wide(k),
+        ReadJob::Refused(k) => numbers::wide(k),
     }
 }
 

@@ -1,20 +1,20 @@
 -- Bytes without padding bits are given back by their pixels: so a stack of bytes is settled by its pixels.
-use mathlib.Core.Path.{_≡_, refl, sym, ap, _∙_}
+use mathlib.Core.Path.{_≡_, refl, sym, _∙_}
 use mathlib.Core.Logic.{_↔_}
-use mathlib.Core.Bool.{Bool, true, false, not, _&&_, _||_}
-use mathlib.Core.List.{List, [], _∷_, _++_}
+use mathlib.Core.Bool.{Bool, false, not, _&&_}
+use mathlib.Core.List.{List}
 use Prim.Native.Nat.{ℕ, zero, suc, _+_, _-_, _*_, _/_, _%_, _^_, _≤_, _<_}
-use native.Mathlib.Nat.{zero-add, suc-add, div-add-mod', mod-lt, div-lt-iff-lt-mul, div-one, pow-succ', pow-suc, div-div-eq-div-mul, mul-assoc, mul-div-cancel, div-eq-of-lt}
+use native.Mathlib.Nat.{zero-add, div-add-mod', mod-lt, div-one, pow-suc, div-div-eq-div-mul, div-eq-of-lt}
 use native.Mathlib.Omega.{arith}
 use lib.Arith.{digits-lt, digits-div, digits-mod}
 use lib.Pow.{field, mod-mod-pow, pow-pos}
 use native.Mathlib.Numerals.{add-one}
-use lib.Dec.{leb, ltb, eqb}
+use lib.Dec.{ltb, eqb}
 use lib.ListN.{getD, length}
 use lib.Seq.{ext-getD}
-use borrow.Author.Tests.{eqb-true, eqb-false, ltb-true, ltb-false, eq-eqb, ne-eqb, lt-ltb, le-ltb}
-use Rattle.rules.specs.Images.{Plane, Stack, rowBytes, bitAt, pixel, paddingSet, byteOf, bytesOf}
-use Rattle.rules.specs.Tools.{bit, some, each}
+use borrow.Author.Tests.{eqb-true, ltb-true, ltb-false}
+use Rattle.rules.specs.Images.{Stack, rowBytes, bitAt, pixel, paddingSet, byteOf, bytesOf}
+use Rattle.rules.specs.Tools.{bit}
 use Rattle.laws.specs.Tests.{split, clash, some-in, not-in, getD-each, length-each, each-same}
 use Rattle.laws.specs.Places.{digits-in}
 

@@ -1,21 +1,22 @@
--- Demand 2: planning by 01's rules is the chapter's Algorithms 1 and 2, iteration by iteration.
+-- Demand 2: planning by the rules is the chapter's Algorithms 1 and 2, iteration by iteration.
 use mathlib.Core.Path.{_≡_, refl, sym, ap, _∙_}
-use mathlib.Core.Logic.{_⊎_, inl, inr, ⊎-elim, _↔_}
-use mathlib.Core.Bool.{Bool, true, false, not, _&&_, _||_, cond}
-use mathlib.Core.List.{List}
+use mathlib.Core.Logic.{⊎-elim, _↔_}
+use mathlib.Core.Bool.{Bool, true, false, not, _&&_, _||_}
 use Prim.Native.Nat.{ℕ, zero, suc, _+_, _-_, _*_, _≤_, _<_}
 use native.Mathlib.Nat.{zero-add, suc-add}
 use native.Mathlib.Omega.{arith}
 use lib.Dec.{leb, ltb, eqb}
-use lib.ListN.{getD, length}
+use lib.ListN.{getD}
 use lib.Seq.{ext-getD}
-use borrow.Author.Tests.{eqb-true, eqb-false, eq-eqb, ne-eqb, ltb-true, ltb-false, lt-ltb, le-ltb, leb-true, leb-false}
-use Rattle.rules.specs.Tools.{each}
+use borrow.Author.Tests.{eqb-true, eq-eqb, ne-eqb, ltb-true, ltb-false, lt-ltb, le-ltb, leb-true, leb-false}
 use Rattle.rules.specs.Images.{Plane, Stack}
-use Rattle.rules.specs.Planning.{shadow, near, source, seeds, reached, touch, touching, fits, grown, planned, topOf, supportUnder, empty, Swallow, dilated, swallowed, growingSwallow, regionSubtraction}
-use Rattle.rules.specs.Demands.{Joined, start, onward}
-use Rattle.laws.specs.Tests.{split, clash, bool-eq, and-l, and-r, and-in, or-l, or-r, or-out, or-none, or-false, and-true, and-false, not-in, not-out, some-in, some-out, getD-each, length-each, count-le}
-use Rattle.laws.specs.Growing.{after, fitting, has, source-seed, seed-source, source-ring, ring-source, fits-in, fits-out, length-grown, after-zero, after-suc, keep-to, new, bounded, born, born-bare, path, complete, crowd}
+use Rattle.rules.specs.Planning.{shadow, near, source, seeds, reached, touch, touching, fits, grown, planned, topOf, supportUnder, empty, Swallow, dilated}
+use Rattle.rules.specs.Planning.{swallowed, growingSwallow, regionSubtraction}
+use Rattle.rules.specs.Demands.{start, onward}
+use Rattle.laws.specs.Tests.{split, clash, bool-eq, and-l, and-r, and-in, or-l, or-r, or-out, or-none, or-false, and-true, and-false, not-in, not-out}
+use Rattle.laws.specs.Tests.{some-in, some-out, getD-each, count-le}
+use Rattle.laws.specs.Growing.{after, fitting, has, source-seed, seed-source, source-ring, ring-source, fits-in, fits-out, length-grown, after-zero}
+use Rattle.laws.specs.Growing.{after-suc, keep-to, new, bounded, born, born-bare, path, complete, crowd}
 use Rattle.laws.specs.Soundness.{ringsOf, ringsOf-is, seed-barred, planned-step}
 
 -- Where a run of Algorithm 1 may stop -----------------------------------------------------------------------------------

@@ -1,29 +1,29 @@
 -- Demand 1, call by call: each number is answered exactly when it is given by the call's table, and nothing is refused exactly when
 -- no condition holds. Numbers 9, 10 and 11 are told exactly at their first place.
 use mathlib.Core.Path.{_≡_, refl, sym, ap, subst, _∙_}
-use mathlib.Core.Logic.{_⊎_, inl, inr, ⊎-elim, _↔_}
-use mathlib.Core.Bool.{Bool, true, false, not, _&&_, _||_, cond}
+use mathlib.Core.Logic.{_↔_}
+use mathlib.Core.Bool.{Bool, not, cond}
 use mathlib.Core.List.{List, [], _∷_, _++_}
-use Prim.Native.Nat.{ℕ, zero, suc, _+_, _-_, _*_, _/_, _%_, _≤_, _<_}
+use Prim.Native.Nat.{ℕ, zero, suc, _+_, _-_, _*_, _/_, _%_, _<_}
 use native.Mathlib.Nat.{div-add-mod', mul-assoc, add-mul}
 use native.Mathlib.Omega.{arith}
 use lib.Arith.{digits-lt, digits-div, digits-mod}
-use lib.Dec.{leb, ltb, eqb}
-use lib.ListN.{length}
-use borrow.Author.Tests.{ltb-true, ltb-false, eqb-true, eqb-false}
+use lib.Dec.{ltb, eqb}
+use borrow.Author.Tests.{ltb-true, ltb-false}
 use Rattle.rules.specs.Tools.{Case, refusal, answer, Found, nothing, found, first}
 use Rattle.rules.specs.Images.{Stack, Rings}
-use Rattle.rules.specs.Reach.{reachOf, boundOf}
-use Rattle.rules.specs.Judging.{overlap, badRing, unheld, firstIn, placeOf, tell, verdict, verdictOf}
+use Rattle.rules.specs.Reach.{reachOf}
+use Rattle.rules.specs.Judging.{overlap, badRing, unheld, firstIn, placeOf, tell, verdict}
 use Rattle.rules.specs.Jobs.{Job, headEnd, partEnd, supportEnd, settingsIn, storedIn, partIn, layoutOf, fileLength}
-use Rattle.rules.specs.Calls.{saysReached, saysPlanned, saysJudged, saysSettings, saysRead, saysCopied, saysWritten, reachCases, reachAnswer, planCases, planRefusal, planAnswer, judgeCases, judgeAnswer, readCases, readRefusal, readAnswer, copyCases, copyAnswer, writeCases, writeRefusal, writeAnswer}
+use Rattle.rules.specs.Calls.{saysReached, saysPlanned, saysSettings, saysRead, saysCopied, saysWritten, reachCases, reachAnswer, planCases, planRefusal}
+use Rattle.rules.specs.Calls.{planAnswer, readCases, readRefusal, readAnswer, copyCases, copyAnswer, writeCases, writeRefusal, writeAnswer}
 use Rattle.rules.specs.Report.{reportCases, reportOf, planLines, refusedLine}
-use Rattle.rules.specs.Demands.{Given, NoneGiven, Earlier, sooner-layer, sooner-row, sooner-column, FirstAt}
+use Rattle.rules.specs.Demands.{Given, Earlier, sooner-layer, sooner-row, sooner-column, FirstAt}
 use Rattle.rules.specs.declared.Micrometres.{Micrometres}
 use Rattle.rules.specs.declared.Settings.{Settings}
 use Rattle.rules.specs.declared.Place.{Place}
 use Rattle.rules.specs.declared.Judged.{Judged}
-use Rattle.rules.specs.declared.Judged.the-variants.{Accepted, Refused as NotJudged, RefusedAt}
+use Rattle.rules.specs.declared.Judged.the-variants.{Accepted, RefusedAt}
 use Rattle.rules.specs.declared.Reached.the-variants.{By, Refused as NotReached}
 use Rattle.rules.specs.declared.Planned.the-variants.{Done, Refused as NotPlanned}
 use Rattle.rules.specs.declared.Layout.{Layout}
@@ -31,9 +31,9 @@ use Rattle.rules.specs.declared.ReadJob.{ReadJob}
 use Rattle.rules.specs.declared.ReadJob.the-variants.{Job as IsJob, Refused as NotRead}
 use Rattle.rules.specs.declared.CopiedRings.the-variants.{Copied, Refused as NotCopied}
 use Rattle.rules.specs.declared.WrittenJob.the-variants.{Length, Refused as NotWritten}
-use Rattle.laws.specs.Tests.{split, clash}
-use Rattle.laws.specs.Refusals.{given-exactly, answer-fine, answer-refused}
-use Rattle.laws.specs.Places.{First, none-is, one-is, first-is, first-unique, digits-in, Nowhere, nowhere-in, nowhere-out}
+use Rattle.laws.specs.Tests.{split}
+use Rattle.laws.specs.Refusals.{given-exactly, answer-fine}
+use Rattle.laws.specs.Places.{First, one-is, first-is, first-unique, digits-in, Nowhere, nowhere-in, nowhere-out}
 
 -- Each call --------------------------------------------------------------------------------------------------------------
 

@@ -7,12 +7,11 @@ use mathlib.Core.List.{List, [], _∷_}
 use Prim.Native.Nat.{ℕ, zero, suc, _-_, _*_, _≤_, _<_}
 use native.Mathlib.Omega.{arith}
 use lib.ListN.{length}
-use Rattle.rules.specs.Tools.{refusal, answer}
 use Rattle.rules.specs.Images.{Plane, pixel, ringAt}
 use Rattle.rules.specs.Reach.{boundOf}
-use Rattle.rules.specs.Planning.{shadow, near, seeds, reached, touch, rings, planned, empty, plannedRings, plannedBytes, swallowed, growingSwallow, regionSubtraction}
-use Rattle.rules.specs.Calls.{saysPlanned, planCases, planRefusal, planAnswer, planSupport, planRings}
-use Rattle.rules.specs.Demands.{JoinedBy, Excused, Words}
+use Rattle.rules.specs.Planning.{shadow, near, seeds, reached, touch, planned, empty, plannedRings, plannedBytes, swallowed, growingSwallow, regionSubtraction}
+use Rattle.rules.specs.Calls.{saysPlanned, planRefusal, planAnswer, planSupport, planRings}
+use Rattle.rules.specs.Demands.{JoinedBy, Excused}
 use Rattle.rules.specs.declared.Settings.{Settings}
 use Rattle.rules.specs.declared.Planned.the-variants.{Done, Refused}
 use Rattle.laws.specs.Refusals.{answer-fine, answer-refused}

@@ -117,8 +117,12 @@ module _ (s : Settings) (part sup : List ℕ) where
     (λ (r, sound).
         let L : List ℕ = rings (s .w) (s .h) (s .n) (boundOf s) (pixel (s .w) (s .h) part) in
         let f = judge-exactly s part sup (ringsIn s) .0 r in
-        let c : length L ≡ ringsIn s = rings-length (s .w) (s .h) (s .n) (boundOf s) (pixel (s .w) (s .h) part) in
-        (L, rings-fit (s .w) (s .h) (s .n) (boundOf s) (pixel (s .w) (s .h) part) (small s (f .stack .settings) .1), accepted-is L .1 (rw c f, accepted-with (s .w) (s .h) (s .n) (boundOf s) (pixel (s .w) (s .h) part) (pixel (s .w) (s .h) sup) sound))),
+        let c : length L ≡ ringsIn s = rings-length (s .w) (s .h) (s .n) (boundOf s) (pixel (s .w) (s .h) part) in (
+          L,
+          rings-fit (s .w) (s .h) (s .n) (boundOf s) (pixel (s .w) (s .h) part) (small s (f .stack .settings) .1),
+          accepted-is L .1
+              (rw c f, accepted-with (s .w) (s .h) (s .n) (boundOf s) (pixel (s .w) (s .h) part) (pixel (s .w) (s .h) sup) sound),
+        )),
   )
 
 -- "The planner's own result is accepted"
@@ -151,7 +155,8 @@ plan-left-accepted s part sup ring r sup′ ring′ v x e y =
     rw (y .answer, x .support, x .rings) (go (planRefusal s part (length sup) (length ring)) refl (sym (ap saysPlanned (x .answer)) ∙ e))
   where
     go : (r : ℕ) → planRefusal s part (length sup) (length ring) ≡ r → saysPlanned (answer r Done NotPlanned) ≡ 0 ∷ [] →
-        saysJudged (judgeAnswer s part (answer r (plannedBytes (s .w) (s .h) (s .n) (boundOf s) part) (λ k. sup)) (answer r (plannedRings (s .w) (s .h) (s .n) (boundOf s) part) (λ k. ring))) ≡ 0 ∷ []
+        saysJudged (judgeAnswer s part (answer r (plannedBytes (s .w) (s .h) (s .n) (boundOf s) part) (λ k. sup)) (answer r (plannedRings (s .w) (s .h) (s .n) (boundOf s) part) (λ k. ring))) ≡ 0
+        ∷ []
     go zero z h = plan-accepted s part (length sup) (length ring) z
     go (suc r) z h = absurd (let y : _≡_ {A = ℕ} (suc r) 0 = cc in omega arith)
 

@@ -1,17 +1,18 @@
 -- The words of the demands on small cases, mostly the bench pieces: what each lets pass, and what it does not.
 use mathlib.Core.Path.{_≡_, refl, sym, ap}
 use mathlib.Core.Logic.{_⊎_, inl, inr}
-use mathlib.Core.Bool.{Bool, true, false, not, _&&_, _||_}
+use mathlib.Core.Bool.{Bool, true, false, _&&_, _||_}
 use mathlib.Core.List.{List, [], _∷_}
-use Prim.Native.Nat.{ℕ, zero, suc, _+_, _*_, _<_}
+use Prim.Native.Nat.{ℕ, zero, suc, _<_}
 use native.Mathlib.Omega.{arith}
 use lib.Dec.{eqb}
 use lib.ListN.{getD}
 use Rattle.rules.specs.Tools.{Case, _when_, some}
-use Rattle.rules.specs.Images.{Plane, Stack, rowBytes, bitAt, pixel}
+use Rattle.rules.specs.Images.{Stack, rowBytes, bitAt, pixel}
 use Rattle.rules.specs.Reach.{square, apart, distance²}
 use Rattle.rules.specs.Planning.{shadow, near, seeds, reached, touch}
-use Rattle.rules.specs.Demands.{Given, here, later, Applies, this, further, NoneGiven, next, Earlier, sooner-layer, sooner-row, sooner-column, FirstAt, Joined, start, onward, Excused, Sound, Bytes, Words}
+use Rattle.rules.specs.Demands.{Given, here, later, Applies, this, further, NoneGiven, next, Earlier, sooner-layer, sooner-row, sooner-column, FirstAt, Joined}
+use Rattle.rules.specs.Demands.{start, onward, Excused, Sound, Bytes, Words}
 use Rattle.laws.specs.Tests.{split, clash, and-in, some-in}
 
 -- Given exactly when --------------------------------------------------------------------------------------------------------
@@ -91,7 +92,8 @@ e-not-joined (k, start f l t s) = clash f refl
 e-not-joined (k, onward f l t j) = clash f refl
 
 -- piece c: all is near, and there is no seed
-pub c-not-joined : (k p : ℕ) → Joined 8 (touch 8) (reached 8 1 4 (layers (0xE0 ∷ 0x1F ∷ []) 0) (layers (0xE0 ∷ 0x1F ∷ []) 1)) (seeds (layers (0xE0 ∷ 0x1F ∷ []) 0) (layers (0xE0 ∷ 0x1F ∷ []) 1)) k p → ⊥
+pub c-not-joined : (k p : ℕ) → Joined 8 (touch 8) (reached 8 1 4 (layers (0xE0 ∷ 0x1F ∷ []) 0) (layers (0xE0 ∷ 0x1F ∷ []) 1)) (seeds (layers (0xE0 ∷ 0x1F ∷ []) 0) (layers (0xE0 ∷ 0x1F ∷ []) 1)) k
+    p → ⊥
 unfolding some rowBytes bitAt pixel seeds
 c-not-joined k p (start {o = o} f l t s) = none-of 8 (λ o. seeds (layers (0xE0 ∷ 0x1F ∷ []) 0) (layers (0xE0 ∷ 0x1F ∷ []) 1) o) refl o l s
 c-not-joined k p (onward {k = j} {o = o} f l t r) = c-not-joined j o r

@@ -3,15 +3,19 @@
 use mathlib.Core.Path.{_≡_, refl}
 use mathlib.Core.List.{List, [], _∷_, _++_, map}
 use mathlib.Core.Bool.{Bool, true, false}
-use Prim.Native.Nat.{ℕ, _+_}
-use lib.ListN.{length, getD, take, drop, set}
+use Prim.Native.Nat.{ℕ}
+use lib.ListN.{getD, take, drop, set}
 use Rattle.rules.specs.Tools.{bit, some, count, largest, each, joinedUp, first}
 use Rattle.rules.specs.Images.{Rings, within, sized, rowBytes, bitAt, pixel, rowsOf, stackBytes, paddingSet, byteOf, bytesOf, ringsIn, ringAt}
 use Rattle.rules.specs.Reach.{settable, reachOf, square, boundOf, apart, distance², root, halfWidth}
-use Rattle.rules.specs.Planning.{shadow, near, seeds, reached, touch, source, touching, fits, grow, grown, ringPlane, rings, excused, supportUnder, topOf, planned, empty, plannedRings, plannedBytes, dilated, swallowed, growingSwallow, regionSubtraction}
+use Rattle.rules.specs.Planning.{shadow, near, seeds, reached, touch, source, touching, fits, grow, grown, ringPlane, rings, excused, supportUnder, topOf}
+use Rattle.rules.specs.Planning.{planned, empty, plannedRings, plannedBytes, dilated, swallowed, growingSwallow, regionSubtraction}
 use Rattle.rules.specs.Judging.{overlap, badRing, unheld, firstIn, placeOf, tell, verdict, verdictOf}
-use Rattle.rules.specs.Jobs.{Job, be16, be32, put16, put32, get16s, put16s, headEnd, partEnd, supportCount, supportEnd, ringCount, jobEnd, settingsIn, storedIn, partIn, supportIn, ringsStored, layoutOf, storedRows, fileOf, fileLength, over}
-use Rattle.rules.specs.Calls.{saysPlanned, saysJudged, saysRead, saysCopied, saysWritten, reachCases, settingCases, lengthCases, bothCases, stackCases, planCases, planRefusal, planAnswer, planSupport, planRings, judgeCases, judgeAnswer, sectionCases, readCases, readRefusal, readAnswer, partAnswer, supportAnswer, copyCases, copyAnswer, copyRings, writeCases, writeRefusal, writeAnswer, writeTo}
+use Rattle.rules.specs.Jobs.{Job, be16, be32, put16, put32, get16s, put16s, headEnd, partEnd, supportCount, supportEnd, ringCount, jobEnd, settingsIn, storedIn}
+use Rattle.rules.specs.Jobs.{partIn, supportIn, ringsStored, layoutOf, storedRows, fileOf, fileLength}
+use Rattle.rules.specs.Calls.{saysPlanned, saysJudged, saysRead, saysCopied, saysWritten, reachCases, settingCases, lengthCases, bothCases, stackCases}
+use Rattle.rules.specs.Calls.{planCases, planRefusal, planAnswer, planSupport, planRings, judgeCases, judgeAnswer, sectionCases, readCases, readRefusal}
+use Rattle.rules.specs.Calls.{readAnswer, partAnswer, supportAnswer, copyCases, copyAnswer, copyRings, writeCases, writeRefusal, writeAnswer}
 use Rattle.rules.specs.Report.{digits, decimal, spaced, refusedLine, jobLine, filled, excusedAbove, layerLine, planLines, reportCases, reportOf}
 use Rattle.rules.specs.declared.Settings.{Settings}
 
@@ -35,7 +39,9 @@ pub plans-rows :
     ≡ ((0x00 ∷ 0x00 ∷ 0x00 ∷ 0x00 ∷ 0x00 ∷ 0x00 ∷ []) ∷ (0 ∷ 1 ∷ 2 ∷ 1 ∷ 1 ∷ 2 ∷ 2 ∷ 2 ∷ 2 ∷ []) ∷ [])
     ∷ ((0x1F ∷ 0x80 ∷ 0x00 ∷ 0x80 ∷ 0x00 ∷ 0x00 ∷ 0x00 ∷ 0x00 ∷ []) ∷ (0 ∷ 1 ∷ 2 ∷ 0 ∷ 0 ∷ 0 ∷ 0 ∷ 0 ∷ 0 ∷ 0 ∷ 0 ∷ 0 ∷ 0 ∷ 0 ∷ 0 ∷ 0 ∷ 0 ∷ 0 ∷ []) ∷ [])
     ∷ []
-unfolding bit some each joinedUp within sized rowBytes bitAt pixel rowsOf stackBytes paddingSet byteOf bytesOf ringsIn ringAt settable reachOf square boundOf apart distance² shadow near seeds reached touch source touching fits grow grown ringPlane rings excused supportUnder topOf planned empty plannedRings plannedBytes reachCases settingCases lengthCases planCases stackCases planRefusal planSupport planRings settings leaves
+unfolding bit some each joinedUp within sized rowBytes bitAt pixel rowsOf stackBytes paddingSet byteOf bytesOf ringsIn ringAt settable reachOf square boundOf
+    apart distance² shadow near seeds reached touch source touching fits grow grown ringPlane rings excused supportUnder topOf planned empty plannedRings
+    plannedBytes reachCases settingCases lengthCases planCases stackCases planRefusal planSupport planRings settings leaves
 plans-rows = refl
 
 -- near any part of the layer below, also where the upper layer has none; and a path of ten steps in a plane of three rows and six columns
@@ -46,7 +52,9 @@ pub plans-paths :
     ≡ ((0x00 ∷ 0x00 ∷ []) ∷ (0 ∷ 1 ∷ 2 ∷ 3 ∷ 4 ∷ 0 ∷ 0 ∷ 0 ∷ []) ∷ [])
     ∷ ((0x00 ∷ 0x00 ∷ 0x00 ∷ 0x00 ∷ 0x00 ∷ 0x00 ∷ []) ∷ (0 ∷ 1 ∷ 2 ∷ 3 ∷ 4 ∷ 5 ∷ 0 ∷ 0 ∷ 0 ∷ 0 ∷ 0 ∷ 5 ∷ 10 ∷ 9 ∷ 8 ∷ 7 ∷ 6 ∷ 6 ∷ []) ∷ [])
     ∷ []
-unfolding bit some each joinedUp within sized rowBytes bitAt pixel rowsOf stackBytes paddingSet byteOf bytesOf ringsIn ringAt settable reachOf square boundOf apart distance² shadow near seeds reached touch source touching fits grow grown ringPlane rings excused supportUnder topOf planned empty plannedRings plannedBytes reachCases settingCases lengthCases planCases stackCases planRefusal planSupport planRings settings leaves
+unfolding bit some each joinedUp within sized rowBytes bitAt pixel rowsOf stackBytes paddingSet byteOf bytesOf ringsIn ringAt settable reachOf square boundOf
+    apart distance² shadow near seeds reached touch source touching fits grow grown ringPlane rings excused supportUnder topOf planned empty plannedRings
+    plannedBytes reachCases settingCases lengthCases planCases stackCases planRefusal planSupport planRings settings leaves
 plans-paths = refl
 
 -- the bound on squared distances is the reach squared, for the lowest pair and the highest
@@ -99,7 +107,8 @@ pub plan-numbers :
     ∷ plan-says (settings 7 1 2 10 320) (2 ∷ 2 ∷ []) 2 7
     ∷ []
     ≡ (1 ∷ []) ∷ (2 ∷ []) ∷ (3 ∷ []) ∷ (4 ∷ []) ∷ (5 ∷ []) ∷ (6 ∷ []) ∷ (7 ∷ []) ∷ (0 ∷ []) ∷ []
-unfolding some within sized rowBytes rowsOf stackBytes paddingSet ringsIn settable reachOf reachCases settingCases lengthCases planCases stackCases planRefusal planAnswer settings plan-says
+unfolding some within sized rowBytes rowsOf stackBytes paddingSet ringsIn settable reachOf reachCases settingCases lengthCases planCases stackCases planRefusal
+    planAnswer settings plan-says
 plan-numbers = refl
 
 -- Judging ----------------------------------------------------------------------------------------------------------------
@@ -123,12 +132,16 @@ pub judge-numbers :
     ∷ judge-says (settings 7 1 2 10 0) (2 ∷ 2 ∷ []) (4 ∷ 1 ∷ []) (each 0 7 (λ x. 0))
     ∷ []
     ≡ (4 ∷ []) ∷ (5 ∷ []) ∷ (6 ∷ []) ∷ (7 ∷ []) ∷ (8 ∷ []) ∷ (0 ∷ []) ∷ (11 ∷ 2 ∷ 1 ∷ 1 ∷ []) ∷ (10 ∷ 2 ∷ 1 ∷ 1 ∷ []) ∷ (9 ∷ 2 ∷ 1 ∷ 0 ∷ []) ∷ (11 ∷ 1 ∷ 0 ∷ 4 ∷ []) ∷ (7 ∷ []) ∷ (8 ∷ []) ∷ []
-unfolding some each first within sized rowBytes bitAt pixel rowsOf stackBytes paddingSet ringsIn ringAt settable reachOf square boundOf apart distance² shadow near seeds reached touch source touching fits overlap badRing unheld firstIn placeOf tell verdict verdictOf reachCases settingCases lengthCases judgeCases bothCases stackCases judgeAnswer settings judge-says
+unfolding some each first within sized rowBytes bitAt pixel rowsOf stackBytes paddingSet ringsIn ringAt settable reachOf square boundOf apart distance² shadow
+    near seeds reached touch source touching fits overlap badRing unheld firstIn placeOf tell verdict verdictOf reachCases settingCases lengthCases judgeCases
+    bothCases stackCases judgeAnswer settings judge-says
 judge-numbers = refl
 
 -- "A ring need not be the smallest to be accepted."
 pub larger-ring : judge-says (settings 1 4 2 100 100) (0x80 ∷ 0x00 ∷ 0x00 ∷ 0x80 ∷ 0x80 ∷ 0x80 ∷ 0x80 ∷ 0x80 ∷ []) (each 0 8 (λ x. 0)) (0 ∷ 1 ∷ 2 ∷ 0 ∷ []) ≡ 0 ∷ []
-unfolding some each first within sized rowBytes bitAt pixel rowsOf stackBytes paddingSet ringsIn ringAt settable reachOf square boundOf apart distance² shadow near seeds reached touch source touching fits overlap badRing unheld firstIn placeOf tell verdict verdictOf reachCases settingCases lengthCases judgeCases bothCases stackCases judgeAnswer settings judge-says
+unfolding some each first within sized rowBytes bitAt pixel rowsOf stackBytes paddingSet ringsIn ringAt settable reachOf square boundOf apart distance² shadow
+    near seeds reached touch source touching fits overlap badRing unheld firstIn placeOf tell verdict verdictOf reachCases settingCases lengthCases judgeCases
+    bothCases stackCases judgeAnswer settings judge-says
 larger-ring = refl
 
 -- Job files ----------------------------------------------------------------------------------------------------------------
@@ -148,7 +161,9 @@ jobB = record { settings = settings 8 1 2 100 200; part = 0xE0 ∷ 0xFF ∷ []; 
 -- the file and what its calls give: settings, support stored, the four offsets; part, support and rings
 pub file-told : fileOf jobB ∷ saysRead (readAnswer fileB) ∷ partAnswer fileB ∷ supportAnswer fileB ∷ copyRings fileB (each 0 8 (λ x. 9)) ∷ saysWritten (writeAnswer jobB 46) ∷ []
     ≡ fileB ∷ (0 ∷ 8 ∷ 1 ∷ 2 ∷ 100 ∷ 200 ∷ 1 ∷ 4 ∷ 18 ∷ 24 ∷ 30 ∷ []) ∷ (0xE0 ∷ 0xFF ∷ []) ∷ (0x07 ∷ 0x00 ∷ []) ∷ (0 ∷ 0 ∷ 0 ∷ 1 ∷ 2 ∷ 0 ∷ 0 ∷ 0 ∷ []) ∷ (0 ∷ 46 ∷ []) ∷ []
-unfolding some each within sized rowBytes rowsOf stackBytes paddingSet ringsIn settable reachOf headEnd partEnd supportCount supportEnd ringCount jobEnd settingsIn storedIn partIn supportIn ringsStored layoutOf storedRows fileOf fileLength reachCases settingCases sectionCases readCases readRefusal readAnswer partAnswer supportAnswer copyCases copyRings writeCases bothCases stackCases lengthCases writeRefusal writeAnswer settings fileB jobB
+unfolding some each within sized rowBytes rowsOf stackBytes paddingSet ringsIn settable reachOf headEnd partEnd supportCount supportEnd ringCount jobEnd
+    settingsIn storedIn partIn supportIn ringsStored layoutOf storedRows fileOf fileLength reachCases settingCases sectionCases readCases readRefusal readAnswer
+    partAnswer supportAnswer copyCases copyRings writeCases bothCases stackCases lengthCases writeRefusal writeAnswer settings fileB jobB
 file-told = refl
 
 -- "All numbers are big-endian.": four bytes and two, each way, at an offset too
@@ -167,7 +182,8 @@ pub large-counts : (part sup ring : List ℕ) →
     ∷ saysRead (readAnswer (0 ∷ 0 ∷ 0 ∷ 5 ∷ 0 ∷ 8 ∷ 1 ∷ 0 ∷ 1 ∷ 0 ∷ 0 ∷ 100 ∷ 0 ∷ 200 ∷ 0 ∷ 0 ∷ 0 ∷ 0 ∷ []))
     ∷ []
     ≡ (0 ∷ 1 ∷ 0 ∷ 0 ∷ []) ∷ (0 ∷ 2 ∷ 0 ∷ 0 ∷ []) ∷ (12 ∷ []) ∷ (13 ∷ []) ∷ []
-unfolding within sized rowBytes rowsOf stackBytes ringsIn settable reachOf headEnd partEnd ringCount settingsIn storedRows fileOf reachCases settingCases sectionCases readCases readRefusal readAnswer settings
+unfolding within sized rowBytes rowsOf stackBytes ringsIn settable reachOf headEnd partEnd ringCount settingsIn storedRows fileOf reachCases settingCases
+    sectionCases readCases readRefusal readAnswer settings
 large-counts part sup ring = refl
 
 pub read-says : List ℕ → List ℕ
@@ -202,7 +218,8 @@ pub read-numbers : map read-says (
     ≡ (12 ∷ []) ∷ (12 ∷ []) ∷ (13 ∷ []) ∷ (13 ∷ []) ∷ (12 ∷ []) ∷ (1 ∷ []) ∷ (1 ∷ []) ∷ (2 ∷ []) ∷ (3 ∷ []) ∷ (12 ∷ []) ∷ (13 ∷ []) ∷ (12 ∷ []) ∷ (12 ∷ []) ∷ (13 ∷ [])
     ∷ (12 ∷ []) ∷ (12 ∷ []) ∷ (13 ∷ []) ∷ (12 ∷ []) ∷ (14 ∷ []) ∷ (14 ∷ []) ∷ (7 ∷ []) ∷ (8 ∷ []) ∷ (13 ∷ [])
     ∷ []
-unfolding some within sized rowBytes rowsOf stackBytes paddingSet ringsIn settable reachOf headEnd partEnd supportCount supportEnd ringCount jobEnd settingsIn storedIn partIn supportIn layoutOf reachCases settingCases sectionCases readCases readRefusal readAnswer fileB read-says
+unfolding some within sized rowBytes rowsOf stackBytes paddingSet ringsIn settable reachOf headEnd partEnd supportCount supportEnd ringCount jobEnd settingsIn
+    storedIn partIn supportIn layoutOf reachCases settingCases sectionCases readCases readRefusal readAnswer fileB read-says
 read-numbers = refl
 
 -- copying rings: 6 for a wrong number of them, after what reading tests; and a job without support
@@ -212,7 +229,8 @@ pub copy-numbers :
     ∷ copyRings fileB (9 ∷ 9 ∷ [])
     ∷ []
     ≡ (0 ∷ []) ∷ (6 ∷ []) ∷ (6 ∷ []) ∷ (14 ∷ []) ∷ (0 ∷ []) ∷ (9 ∷ 9 ∷ []) ∷ []
-unfolding some within sized rowBytes rowsOf stackBytes paddingSet ringsIn settable reachOf headEnd partEnd supportCount supportEnd ringCount jobEnd settingsIn storedIn partIn supportIn ringsStored reachCases settingCases sectionCases readCases copyCases copyAnswer copyRings fileB
+unfolding some within sized rowBytes rowsOf stackBytes paddingSet ringsIn settable reachOf headEnd partEnd supportCount supportEnd ringCount jobEnd settingsIn
+    storedIn partIn supportIn ringsStored reachCases settingCases sectionCases readCases copyCases copyAnswer copyRings fileB
 copy-numbers = refl
 
 pub job7 : List ℕ → List ℕ → List ℕ → Job
@@ -234,7 +252,8 @@ pub write-numbers :
     ∷ jobB
     ∷ [])
     ≡ (4 ∷ []) ∷ (5 ∷ []) ∷ (6 ∷ []) ∷ (6 ∷ []) ∷ (7 ∷ []) ∷ (8 ∷ []) ∷ (7 ∷ []) ∷ (8 ∷ []) ∷ (0 ∷ 44 ∷ []) ∷ (0 ∷ 28 ∷ []) ∷ (16 ∷ []) ∷ []
-unfolding some each within sized rowBytes rowsOf stackBytes paddingSet ringsIn settable reachOf headEnd partEnd supportEnd ringCount jobEnd storedRows fileLength reachCases settingCases writeCases bothCases stackCases lengthCases writeRefusal writeAnswer settings jobB job7
+unfolding some each within sized rowBytes rowsOf stackBytes paddingSet ringsIn settable reachOf headEnd partEnd supportEnd ringCount jobEnd storedRows
+    fileLength reachCases settingCases writeCases bothCases stackCases lengthCases writeRefusal writeAnswer settings jobB job7
 write-numbers = refl
 
 -- The report ---------------------------------------------------------------------------------------------------------------
@@ -247,7 +266,10 @@ pub report-texts :
     ≡ (106 ∷ 111 ∷ 98 ∷ 32 ∷ 49 ∷ 50 ∷ 32 ∷ 49 ∷ 32 ∷ 49 ∷ 32 ∷ 114 ∷ 101 ∷ 97 ∷ 99 ∷ 104 ∷ 32 ∷ 49 ∷ 48 ∷ 10 ∷ 48 ∷ 32 ∷ 49 ∷ 50 ∷ 32 ∷ 48 ∷ 32 ∷ 48 ∷ 10 ∷ [])
     ∷ (114 ∷ 101 ∷ 102 ∷ 117 ∷ 115 ∷ 101 ∷ 100 ∷ 32 ∷ 49 ∷ 50 ∷ 10 ∷ [])
     ∷ []
-unfolding bit some count each joinedUp within sized rowBytes bitAt pixel rowsOf stackBytes paddingSet byteOf bytesOf ringsIn ringAt settable reachOf square boundOf shadow excused supportUnder topOf planned empty rings plannedRings plannedBytes headEnd partEnd supportCount supportEnd ringCount jobEnd settingsIn storedIn partIn supportIn reachCases settingCases sectionCases readCases digits decimal spaced refusedLine jobLine filled excusedAbove layerLine planLines reportCases reportOf
+unfolding bit some count each joinedUp within sized rowBytes bitAt pixel rowsOf stackBytes paddingSet byteOf bytesOf ringsIn ringAt settable reachOf square
+    boundOf shadow excused supportUnder topOf planned empty rings plannedRings plannedBytes headEnd partEnd supportCount supportEnd ringCount jobEnd settingsIn
+    storedIn partIn supportIn reachCases settingCases sectionCases readCases digits decimal spaced refusedLine jobLine filled excusedAbove layerLine planLines
+    reportCases reportOf
 report-texts = refl
 
 -- three layers of two rows and nine columns, with empty support and no rings stored: pixels are counted over all rows, and planned afresh;
@@ -261,5 +283,8 @@ pub report-rows :
     ∷ 49 ∷ 32 ∷ 52 ∷ 32 ∷ 53 ∷ 32 ∷ 51 ∷ 10
     ∷ 48 ∷ 32 ∷ 50 ∷ 32 ∷ 53 ∷ 32 ∷ 50 ∷ 10
     ∷ []
-unfolding bit some count each joinedUp within sized rowBytes bitAt pixel rowsOf stackBytes paddingSet byteOf bytesOf ringsIn ringAt settable reachOf square boundOf apart distance² shadow near seeds reached touch source touching fits grow grown ringPlane rings excused supportUnder topOf planned empty plannedRings plannedBytes headEnd partEnd supportCount supportEnd ringCount jobEnd settingsIn storedIn partIn supportIn reachCases settingCases sectionCases readCases digits decimal spaced refusedLine jobLine filled excusedAbove layerLine planLines reportCases reportOf
+unfolding bit some count each joinedUp within sized rowBytes bitAt pixel rowsOf stackBytes paddingSet byteOf bytesOf ringsIn ringAt settable reachOf square
+    boundOf apart distance² shadow near seeds reached touch source touching fits grow grown ringPlane rings excused supportUnder topOf planned empty
+    plannedRings plannedBytes headEnd partEnd supportCount supportEnd ringCount jobEnd settingsIn storedIn partIn supportIn reachCases settingCases sectionCases
+    readCases digits decimal spaced refusedLine jobLine filled excusedAbove layerLine planLines reportCases reportOf
 report-rows = refl

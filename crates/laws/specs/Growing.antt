@@ -1,5 +1,5 @@
 -- What growing comes to: a ring is the fewest steps from a seed. Over m pixels, with any neighbours, any free pixels and any seeds.
-use mathlib.Core.Path.{_≡_, refl, sym, ap, _∙_}
+use mathlib.Core.Path.{_≡_, refl, sym, _∙_}
 use mathlib.Core.Bool.{Bool, true, false, _&&_, _||_, cond}
 use mathlib.Core.List.{List}
 use mathlib.Core.Logic.{_⊎_, inl, inr}
@@ -14,7 +14,7 @@ use Rattle.rules.specs.Tools.{count}
 use Rattle.rules.specs.Images.{Plane}
 use Rattle.rules.specs.Planning.{source, touching, fits, grow, grown}
 use Rattle.rules.specs.Demands.{Joined, start, onward}
-use Rattle.laws.specs.Tests.{split, clash, and-l, and-r, and-in, or-r, some-in, some-out, length-each, getD-each, count-le, count-more}
+use Rattle.laws.specs.Tests.{split, clash, and-l, and-r, and-in, some-in, some-out, length-each, getD-each, count-le, count-more}
 
 -- What a ring leans on ------------------------------------------------------------------------------------------------
 
@@ -282,7 +282,8 @@ module _ (m : ℕ) (t : ℕ → ℕ → Bool) (free seed : Plane) where
   no-path (inr e) lp (onward f l u r) = no-path (inr e) l r
 
   pub grown-none : (l : List ℕ) → length l ≡ m → ((p : ℕ) → p < m → getD l p 0 ≡ 0) → ((p : ℕ) → p < m → free p ≡ false) ⊎ ((p : ℕ) → p < m → seed p ≡ false) → l ≡ grown m t free seed m
-  grown-none l long zeros e = ext-getD 0 l (grown m t free seed m) (long ∙ sym (length-grown m t free seed m)) (λ p h. zeros p (omega arith) ∙ sym (none p (omega arith) (getD (grown m t free seed m) p 0) refl))
+  grown-none l long zeros e = ext-getD 0 l (grown m t free seed m) (long ∙ sym (length-grown m t free seed m))
+      (λ p h. zeros p (omega arith) ∙ sym (none p (omega arith) (getD (grown m t free seed m) p 0) refl))
     where
       none : (p : ℕ) → p < m → (v : ℕ) → getD (grown m t free seed m) p 0 ≡ v → getD (grown m t free seed m) p 0 ≡ 0
       none p lp zero x = x

@@ -3,7 +3,7 @@ use mathlib.Core.Path.{_≡_, refl, sym, ap, _∙_}
 use mathlib.Core.Logic.{_↔_}
 use mathlib.Core.List.{List, [], _∷_, _++_}
 use mathlib.Core.Bool.{Bool, true, false, not, cond}
-use Prim.Native.Nat.{ℕ, _+_, _-_, _*_, _≤_, _<_, zero-le}
+use Prim.Native.Nat.{ℕ, _+_, _*_, _≤_, _<_, zero-le}
 use native.Mathlib.Nat.{mul-le-mul, zero-mul, le-refl}
 use native.Mathlib.Omega.{arith}
 use lib.Dec.{ltb, eqb}
@@ -92,7 +92,7 @@ read-parts f =
 -- A file that is accepted -----------------------------------------------------------------------------------------------------
 
 -- "Nothing follows.": its length is the job's, so every section is whole
-pub record Accepted (f : List ℕ) : Type 0 where
+pub record GoodFile (f : List ℕ) : Type 0 where
   pub first : be32 f 0 ≡ 5
   pub settings : refusal (settingCases (settingsIn f)) ≡ 0
   pub part-count : be32 f headEnd ≡ rowsOf (settingsIn f)
@@ -102,7 +102,7 @@ pub record Accepted (f : List ℕ) : Type 0 where
   pub part-clear : paddingSet (settingsIn f .w) (rowsOf (settingsIn f)) (partIn f) ≡ false
   pub support-clear : paddingSet (settingsIn f .w) (storedIn f) (supportIn f) ≡ false
 
-accepted-out : (f : List ℕ) → readRefusal f ≡ 0 → Accepted f
+accepted-out : (f : List ℕ) → readRefusal f ≡ 0 → GoodFile f
 unfolding bodyRefusal ringsRefusal paddingRefusal jobEnd storedIn
 accepted-out f e =
     let s : Settings = settingsIn f in
@@ -142,13 +142,13 @@ pub record Rooms (f : List ℕ) : Type 0 where
   pub support : supportEnd (settingsIn f) (storedIn f) + 4 ≤ length f
   pub rings : supportEnd (settingsIn f) (storedIn f) + 4 + ringCount (settingsIn f) (storedIn f) * 2 ≡ length f
 
-pub rooms : (f : List ℕ) → Accepted f → Rooms f
+pub rooms : (f : List ℕ) → GoodFile f → Rooms f
 unfolding jobEnd supportEnd partEnd headEnd
 rooms f a =
     let e = a .ends in
     record { head = omega arith; part = omega arith; support = omega arith; rings = omega arith }
 
-module _ (f : List ℕ) (a : Accepted f) where
+module _ (f : List ℕ) (a : GoodFile f) where
   abbrev s : Settings
   s = settingsIn f
 
@@ -179,9 +179,19 @@ module _ (f : List ℕ) (a : Accepted f) where
   accepted-in =
       let e : length f ≤ jobEnd s c = omega (arith, a .ends) in
       read-parts f
-      ∙ simp (section-in f 0 (eqb 5) 2 one, a .settings, section-in f headEnd (eqb (rowsOf s)) (rowBytes (s .w)) two, section-in f (partEnd s) (supportCount s) (rowBytes (s .w)) three, section-in f (supportEnd s c) (eqb (ringCount s c)) 2 four, le-ltb _ _ e, a .part-clear, a .support-clear)
+      ∙ simp (
+        section-in f 0 (eqb 5) 2 one,
+        a .settings,
+        section-in f headEnd (eqb (rowsOf s)) (rowBytes (s .w)) two,
+        section-in f (partEnd s) (supportCount s) (rowBytes (s .w)) three,
+        section-in
+            f (supportEnd s c) (eqb (ringCount s c)) 2 four,
+        le-ltb _ _ e,
+        a .part-clear,
+        a .support-clear,
+      )
 
-pub accepted-exactly : (f : List ℕ) → (readRefusal f ≡ 0) ↔ Accepted f
+pub accepted-exactly : (f : List ℕ) → (readRefusal f ≡ 0) ↔ GoodFile f
 accepted-exactly f = (accepted-out f, accepted-in f)
 
 -- Copying rings tests 6 after everything that reading tests -------------------------------------------------------------

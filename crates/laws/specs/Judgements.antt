@@ -1,6 +1,6 @@
 -- Demand 1 of the checking call itself: its numbers 1 to 8 exactly when its table gives them, and 9, 10, 11 at their first place and
 -- acceptance exactly when the table gives none.
-use mathlib.Core.Path.{_≡_, refl, sym, ap, subst, _∙_}
+use mathlib.Core.Path.{_≡_, refl, ap, _∙_}
 use mathlib.Core.Logic.{_↔_}
 use mathlib.Core.Bool.{true}
 use mathlib.Core.List.{List, [], _∷_}
@@ -10,14 +10,14 @@ use lib.ListN.{length}
 use Rattle.rules.specs.Tools.{Case, refusal, answer, Found, nothing, found}
 use Rattle.rules.specs.Images.{Stack, pixel, ringAt}
 use Rattle.rules.specs.Reach.{boundOf}
-use Rattle.rules.specs.Judging.{overlap, badRing, unheld, firstIn, placeOf, tell, verdict, verdictOf}
+use Rattle.rules.specs.Judging.{overlap, badRing, unheld, placeOf, tell, verdict, verdictOf}
 use Rattle.rules.specs.Calls.{saysJudged, reachCases, settingCases, lengthCases, bothCases, stackCases, judgeCases, judgeAnswer}
 use Rattle.rules.specs.Demands.{Given, NoneGiven, FirstAt}
 use Rattle.rules.specs.declared.Settings.{Settings}
 use Rattle.rules.specs.declared.Place.{Place}
 use Rattle.rules.specs.declared.Judged.{Judged}
 use Rattle.rules.specs.declared.Judged.the-variants.{Accepted, Refused, RefusedAt}
-use Rattle.laws.specs.Refusals.{given-exactly, none-exactly, numbered, answer-fine, answer-refused}
+use Rattle.laws.specs.Refusals.{given-exactly, none-exactly, numbered, answer-fine}
 use Rattle.laws.specs.Demand1.{told-overlap, told-bad-ring, told-unheld}
 use Rattle.laws.specs.Places.{Nowhere, Passed, accepted-out, accepted-in}
 

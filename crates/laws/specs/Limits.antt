@@ -1,6 +1,6 @@
 -- What the tests of sizes and settings say of the numbers: for each test the refusal that it gives, and for none of them the ranges.
 use mathlib.Core.Path.{_≡_}
-use mathlib.Core.Bool.{true, false, not, _&&_}
+use mathlib.Core.Bool.{true, not, _&&_}
 use Prim.Native.Nat.{ℕ, _-_, _*_, _≤_}
 use native.Mathlib.Nat.{mul-le-mul}
 use native.Mathlib.Omega.{arith}
@@ -90,10 +90,6 @@ rows-least s r = mul-le-mul (r .n-low) (r .h-low)
 pub row-bytes-most : (w : ℕ) → w ≤ 256 → rowBytes w ≤ 32
 unfolding rowBytes
 row-bytes-most w h = omega arith
-
-pub row-bytes-least : (w : ℕ) → 1 ≤ w → 1 ≤ rowBytes w
-unfolding rowBytes
-row-bytes-least w h = omega arith
 
 pub stack-most : (s : Settings) → Ranged s → stackBytes s ≤ 4194304
 unfolding stackBytes

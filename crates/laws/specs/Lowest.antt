@@ -4,14 +4,15 @@ use mathlib.Core.Path.{_≡_, refl, subst}
 use mathlib.Core.Logic.{_⊎_, inl, inr, ⊎-elim}
 use mathlib.Core.Bool.{Bool, true, false, _&&_}
 use mathlib.Core.List.{List, [], _∷_}
-use Prim.Native.Nat.{ℕ, zero, suc, _≤_}
+use Prim.Native.Nat.{ℕ, suc, _≤_}
 use native.Mathlib.Omega.{arith}
 use lib.Dec.{leb}
 use lib.ListN.{length}
 use borrow.Author.Tests.{leb-true}
 use Rattle.rules.specs.Tools.{Case}
 use Rattle.rules.specs.Jobs.{Job}
-use Rattle.rules.specs.Calls.{saysReached, saysPlanned, saysJudged, saysWritten, reachCases, reachAnswer, settingCases, lengthCases, bothCases, stackCases, planCases, planAnswer, judgeCases, judgeAnswer, writeCases, writeAnswer}
+use Rattle.rules.specs.Calls.{saysReached, saysPlanned, saysJudged, saysWritten, reachCases, reachAnswer, settingCases, lengthCases, bothCases, stackCases}
+use Rattle.rules.specs.Calls.{planCases, planAnswer, judgeCases, judgeAnswer, writeCases, writeAnswer}
 use Rattle.rules.specs.Demands.{Given, here, later, Applies, this, further}
 use Rattle.rules.specs.declared.Micrometres.{Micrometres}
 use Rattle.rules.specs.declared.Settings.{Settings}

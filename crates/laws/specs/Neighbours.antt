@@ -1,17 +1,17 @@
 -- Neighbours and nearness by rows and columns; and that a bound of 0 leaves no shadow pixel near.
-use mathlib.Core.Path.{_≡_, refl, sym, ap, subst, _∙_}
+use mathlib.Core.Path.{_≡_, sym, ap, subst, _∙_}
 use mathlib.Core.Logic.{_≢_, _↔_}
-use mathlib.Core.Bool.{Bool, true, false, not, _&&_, _||_}
-use Prim.Native.Nat.{ℕ, zero, suc, _+_, _-_, _*_, _/_, _%_, _^_, _≤_, _<_}
+use mathlib.Core.Bool.{true, false, not, _&&_}
+use Prim.Native.Nat.{ℕ, _+_, _-_, _*_, _/_, _%_, _≤_, _<_}
 use native.Mathlib.Nat.{div-add-mod'}
 use native.Mathlib.Omega.{arith}
 use lib.Arith.{digits-lt, digits-div, digits-mod}
-use lib.Dec.{leb, ltb, eqb}
-use borrow.Author.Tests.{eqb-true, eqb-false, ne-eqb, le-leb, leb-true}
+use lib.Dec.{leb, eqb}
+use borrow.Author.Tests.{eqb-false, ne-eqb, le-leb, leb-true}
 use Rattle.rules.specs.Images.{Plane}
 use Rattle.rules.specs.Planning.{touch, shadow, near, reached}
 use Rattle.rules.specs.Reach.{square, apart, distance²}
-use Rattle.laws.specs.Tests.{split, clash, and-l, and-r, and-in, not-in, not-out, some-in, some-out}
+use Rattle.laws.specs.Tests.{split, clash, and-l, and-r, and-in, not-out, some-in, some-out}
 use Rattle.laws.specs.Places.{digits-in}
 use Rattle.laws.specs.Discs.{square-grows}
 

@@ -12,22 +12,24 @@ use lib.ListN.{length, take, drop}
 use borrow.Author.Tests.{eqb-true, ltb-true, not-false}
 use Rattle.rules.specs.Tools.{_when_, refusal, answer}
 use Rattle.rules.specs.Images.{rowBytes, rowsOf, stackBytes}
-use Rattle.rules.specs.Jobs.{Job, be32, get16s, headEnd, partEnd, supportCount, supportEnd, ringCount, jobEnd, settingsIn, storedIn, partIn, supportIn, ringsStored, layoutOf, jobIn, fileLength}
-use Rattle.rules.specs.Calls.{saysCopied, readRefusal, partAnswer, supportAnswer, copyCases, copyAnswer, copyRings, reachCases, settingCases, lengthCases, bothCases, stackCases, writeCases, writeRefusal}
+use Rattle.rules.specs.Jobs.{Job, be32, get16s, headEnd, partEnd, supportCount, supportEnd, ringCount, jobEnd, settingsIn, storedIn, partIn, supportIn}
+use Rattle.rules.specs.Jobs.{ringsStored, layoutOf, jobIn, fileLength}
+use Rattle.rules.specs.Calls.{saysCopied, readRefusal, partAnswer, supportAnswer, copyCases, copyAnswer, copyRings, reachCases, settingCases, lengthCases}
+use Rattle.rules.specs.Calls.{bothCases, stackCases, writeCases, writeRefusal}
 use Rattle.rules.specs.Demands.{Given, here, later}
 use Rattle.rules.specs.declared.Settings.{Settings}
 use Rattle.rules.specs.declared.CopiedRings.the-variants.{Copied, Refused}
 use Rattle.laws.specs.Refusals.{given-exactly, else-both, case-out, answer-fine, answer-refused}
 use Rattle.laws.specs.Numbers.{length-get16s}
 use Rattle.laws.specs.StackTables.{Lengths}
-use Rattle.laws.specs.JobFiles.{Accepted, accepted-exactly, rooms, copy-parts, copy-fits, stores, in-order, writable-exactly, longest-job}
+use Rattle.laws.specs.JobFiles.{GoodFile, accepted-exactly, rooms, copy-parts, copy-fits, stores, in-order, writable-exactly, longest-job}
 use Rattle.laws.specs.RoundTrips.{part-length, support-length, accepted-writable, same-length}
 
 module _ (f : List ℕ) (e : readRefusal f ≡ 0) where
   abbrev s : Settings
   s = settingsIn f
 
-  a : Accepted f
+  a : GoodFile f
   a = accepted-exactly f .0 e
 
   part-is : partAnswer f ≡ partIn f
@@ -51,7 +53,7 @@ module _ (f : List ℕ) (e : readRefusal f ≡ 0) where
 
   -- "for each section, the offset of the first byte after its count": the counts stand in the four bytes before
   pub counts-told :
-      (be32 f (layoutOf f .first - 4) ≡ 5)
+      (be32 f (layoutOf f .head - 4) ≡ 5)
       × (be32 f (layoutOf f .part - 4) ≡ rowsOf s)
       × (be32 f (layoutOf f .support - 4) ≡ cond (layoutOf f .stored) (rowsOf s) 0)
       × (be32 f (layoutOf f .rings - 4) ≡ length (ringsStored f))
@@ -65,8 +67,8 @@ module _ (f : List ℕ) (e : readRefusal f ≡ 0) where
 
   -- the sections follow one another, each with its count before it, and nothing follows the last
   pub sections-follow :
-      (layoutOf f .first ≡ 4)
-      × (layoutOf f .part ≡ layoutOf f .first + 5 * 2 + 4)
+      (layoutOf f .head ≡ 4)
+      × (layoutOf f .part ≡ layoutOf f .head + 5 * 2 + 4)
       × (layoutOf f .support ≡ layoutOf f .part + length (partAnswer f) + 4)
       × (layoutOf f .rings ≡ layoutOf f .support + length (supportAnswer f) + 4)
       × (length f ≡ layoutOf f .rings + length (ringsStored f) * 2)

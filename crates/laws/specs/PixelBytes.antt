@@ -1,25 +1,23 @@
 -- A stack as bytes, and back.
-use mathlib.Core.Path.{_≡_, refl, sym, ap, _∙_}
-use mathlib.Core.Logic.{_⊎_, inl, inr, ⊎-elim}
-use mathlib.Core.Bool.{Bool, true, false, not, _&&_, _||_}
-use mathlib.Core.List.{List, [], _∷_, _++_}
-use Prim.Native.Nat.{ℕ, zero, suc, _+_, _-_, _*_, _/_, _%_, _^_, _≤_, _<_}
-use native.Mathlib.Nat.{zero-add, suc-add, div-add-mod', mod-lt, div-lt-iff-lt-mul, div-one, pow-succ', div-div-eq-div-mul}
+use mathlib.Core.Path.{_≡_, refl, sym, _∙_}
+use mathlib.Core.Bool.{Bool, true, false, _&&_}
+use mathlib.Core.List.{List}
+use Prim.Native.Nat.{ℕ, zero, suc, _+_, _-_, _*_, _/_, _%_, _^_, _<_}
+use native.Mathlib.Nat.{zero-add, suc-add, div-add-mod', div-one, pow-succ', div-div-eq-div-mul}
 use native.Mathlib.Omega.{arith}
 use lib.Arith.{digits-lt, digits-div, digits-mod}
-use lib.Dec.{leb, ltb, eqb}
-use lib.ListN.{getD, length}
-use borrow.Author.Tests.{eqb-true, eqb-false, ltb-true, ltb-false, eq-eqb, ne-eqb, lt-ltb, le-ltb}
-use Rattle.rules.specs.Images.{Plane, Stack, rowBytes, bitAt, pixel, byteOf, bytesOf, ringAt}
-use Rattle.rules.specs.Tools.{bit, each}
+use lib.Dec.{ltb, eqb}
+use lib.ListN.{getD}
+use borrow.Author.Tests.{lt-ltb}
+use Rattle.rules.specs.Images.{Stack, rowBytes, bitAt, pixel, byteOf, bytesOf, ringAt}
+use Rattle.rules.specs.Tools.{bit}
 use Rattle.rules.specs.Planning.{planned, empty, plannedRings, plannedBytes}
-use Rattle.rules.specs.declared.Judged.{Judged}
 use Rattle.rules.specs.declared.Judged.the-variants.{Accepted}
-use Rattle.rules.specs.Judging.{verdict, verdictOf}
-use Rattle.rules.specs.Demands.{Sound, Excused}
-use Rattle.laws.specs.Tests.{split, clash, getD-each, length-each, or-l, or-r, or-out}
-use Rattle.laws.specs.Places.{digits-in, accepted-in, accepted-out}
-use Rattle.laws.specs.Soundness.{ringsOf, sound-accepted, accepted-sound, planned-sound, plan-least}
+use Rattle.rules.specs.Judging.{verdictOf}
+use Rattle.rules.specs.Demands.{Sound}
+use Rattle.laws.specs.Tests.{getD-each}
+use Rattle.laws.specs.Places.{digits-in, accepted-in}
+use Rattle.laws.specs.Soundness.{ringsOf, sound-accepted, planned-sound, plan-least}
 
 bit-lt : (b : Bool) → bit b < 2
 unfolding bit
@@ -36,7 +34,13 @@ byte-bit : (w h : ℕ) (s : Stack) (row j k d : ℕ) → byteOf w h s row j (d +
 unfolding byteOf
 byte-bit w h s row j k zero = rw (zero-add (suc k), div-one) (digits-mod (byteOf w h s row j k) (bit-lt (ltb (8 * j + k) w && s (row / h) (row % h * w + (8 * j + k)))))
 byte-bit w h s row j k (suc d) =
-    rw (suc-add d (suc k), pow-succ' 2 d, ← div-div-eq-div-mul, digits-div (byteOf w h s row j (d + suc k)) (bit-lt (ltb (8 * j + (d + suc k)) w && s (row / h) (row % h * w + (8 * j + (d + suc k))))))
+    rw (
+      suc-add d (suc k),
+      pow-succ' 2 d,
+      ← div-div-eq-div-mul,
+      digits-div (byteOf w h s row j (d + suc k))
+          (bit-lt (ltb (8 * j + (d + suc k)) w && s (row / h) (row % h * w + (8 * j + (d + suc k))))),
+    )
     (byte-bit w h s row j k d)
 
 -- the pixels of the bytes of a stack
@@ -71,7 +75,8 @@ plannedBytes-accepted w h n q part =
     let P : Stack = pixel w h part in
     let S : Stack = planned n P empty (ringsOf w h n q P) in
     accepted-in w h n q P (pixel w h (bytesOf w h n S)) (ringsOf w h n q P)
-    (sound-accepted w h n q P (pixel w h (bytesOf w h n S)) (sound-same w h n q P S (pixel w h (bytesOf w h n S)) (λ i p li lp. sym (pixel-bytes w h n S i p li lp)) (planned-sound w h n q P empty)))
+    (sound-accepted w h n q P (pixel w h (bytesOf w h n S))
+    (sound-same w h n q P S (pixel w h (bytesOf w h n S)) (λ i p li lp. sym (pixel-bytes w h n S i p li lp)) (planned-sound w h n q P empty)))
 
 -- and every pixel of them is in any support that is accepted, with any rings
 pub plannedBytes-least : (w h n : ℕ) (q : ℕ → ℕ) (part sup l : List ℕ) → verdictOf w h n q part sup l ≡ Accepted →

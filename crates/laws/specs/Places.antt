@@ -1,19 +1,17 @@
 -- What the checker's answer says of the images: the first place of a stack, and what it means to be accepted.
-use mathlib.Core.Path.{_≡_, refl, sym, ap, _∙_}
-use mathlib.Core.Logic.{_⊎_, inl, inr, ⊎-elim, _↔_}
-use mathlib.Core.Bool.{Bool, true, false, not, _&&_, _||_, cond}
-use mathlib.Core.List.{List, [], _∷_, _++_}
+use mathlib.Core.Path.{_≡_, refl, ap}
+use mathlib.Core.Bool.{Bool, true, false}
 use Prim.Native.Nat.{ℕ, zero, suc, _+_, _-_, _*_, _/_, _%_, _≤_, _<_}
-use native.Mathlib.Nat.{zero-add, suc-add, not-suc-le-zero, div-lt-iff-lt-mul, mod-lt}
+use native.Mathlib.Nat.{div-lt-iff-lt-mul, mod-lt}
 use native.Mathlib.Omega.{arith}
 use lib.Arith.{digits-lt, digits-div, digits-mod}
-use lib.Dec.{leb, ltb, eqb}
+use lib.Dec.{ltb, eqb}
 use borrow.Author.Tests.{eqb-true, eqb-false, ltb-true, ltb-false}
-use Rattle.rules.specs.Images.{Plane, Stack}
+use Rattle.rules.specs.Images.{Stack}
 use Rattle.rules.specs.Tools.{Found, nothing, found, first}
 use Rattle.rules.specs.Judging.{firstIn, tell, verdict, overlap, badRing, unheld}
 use Rattle.rules.specs.declared.Judged.{Judged}
-use Rattle.rules.specs.declared.Judged.the-variants.{Accepted, RefusedAt}
+use Rattle.rules.specs.declared.Judged.the-variants.{Accepted}
 use Rattle.laws.specs.Tests.{split, clash}
 
 -- x is the first of a, a + 1, .., a + n - 1 that passes; or none does

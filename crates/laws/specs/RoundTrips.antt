@@ -2,7 +2,7 @@
 use mathlib.Core.Path.{_≡_, refl, sym, ap, ap₂, _∙_}
 use mathlib.Core.List.{List, [], _∷_, _++_, append-assoc, append-nil}
 use mathlib.Core.Bool.{Bool, true, false, not, _||_, cond}
-use Prim.Native.Nat.{ℕ, zero, suc, _+_, _-_, _*_, _≤_, _<_}
+use Prim.Native.Nat.{ℕ, zero, suc, _+_, _*_, _≤_, _<_}
 use native.Mathlib.Nat.{zero-add, zero-mul, mul-le-mul}
 use native.Mathlib.Omega.{arith}
 use lib.Dec.{eqb}
@@ -11,7 +11,8 @@ use lib.Seq.{length-take-le, take-at, drop-at}
 use borrow.Author.Tests.{eq-eqb, ne-eqb, eqb-true}
 use Rattle.rules.specs.Tools.{refusal, answer}
 use Rattle.rules.specs.Images.{rowBytes, rowsOf, stackBytes}
-use Rattle.rules.specs.Jobs.{Job, be16, be32, put16, put32, get16s, put16s, headEnd, partEnd, supportCount, supportEnd, ringCount, settingsIn, storedIn, partIn, supportIn, ringsStored, layoutOf, jobIn, storedRows, fileOf, fileLength, over}
+use Rattle.rules.specs.Jobs.{Job, be16, be32, put16, put32, get16s, put16s, headEnd, partEnd, supportCount, supportEnd, ringCount, settingsIn, storedIn, partIn}
+use Rattle.rules.specs.Jobs.{supportIn, ringsStored, layoutOf, jobIn, storedRows, fileOf, fileLength, over}
 use Rattle.rules.specs.Calls.{saysSettings, saysRead, saysWritten, readRefusal, readAnswer, partAnswer, supportAnswer, copyCases, copyAnswer, copyRings, writeRefusal, writeTo}
 use Rattle.rules.specs.Outcomes.{Reads, HandsPart, HandsSupport, Copies, Writes}
 use Rattle.rules.specs.Demands.{Bytes, Words}
@@ -25,7 +26,8 @@ use Rattle.laws.specs.Refusals.{answer-fine, answer-refused}
 use Rattle.laws.specs.Demand1.{read-answers, job-read, write-answers}
 use Rattle.laws.specs.Limits.{Ranged, ranged, rows-most}
 use Rattle.laws.specs.Numbers.{peel16, peel32, peel, peel16s, grow16, grow32, grow, grow16s, length-get16s}
-use Rattle.laws.specs.JobFiles.{copy-fits, Accepted, accepted-exactly, rooms, rowsStored, Writable, writable-exactly, write-fits, write-short, stored-most, ring-count-most, length-file}
+use Rattle.laws.specs.JobFiles.{copy-fits, GoodFile, accepted-exactly, rooms, rowsStored, Writable, writable-exactly, write-fits, write-short}
+use Rattle.laws.specs.JobFiles.{stored-most, ring-count-most, length-file}
 
 -- The bytes of a job, section by section, each with all that follows -------------------------------------------------------
 
@@ -69,7 +71,7 @@ count-back s c k v a e = go (eqb c 0) refl a
         let y : k ≡ 0 → ⊥ = λ q. omega (arith, p2) in
         simp (ne-eqb k 0 y) z
 
-module _ (f : List ℕ) (a : Accepted f) where
+module _ (f : List ℕ) (a : GoodFile f) where
   abbrev s : Settings
   s = settingsIn f
 
@@ -235,7 +237,7 @@ module _ (j : Job) (w : Words (j .rings)) (v : Writable j) where
   same-job : jobIn f ≡ j
   same-job = rw (head .settings, part-back, support-back, rings-back)
 
-  written-accepted : Accepted f
+  written-accepted : GoodFile f
   unfolding fileLength
   written-accepted =
       record {
@@ -255,7 +257,8 @@ module _ (j : Job) (w : Words (j .rings)) (v : Writable j) where
 pub read-back : (j : Job) (room : ℕ) → Words (j .rings) → writeRefusal j room ≡ 0 →
     (readRefusal (fileOf j) ≡ 0)
     × (jobIn (fileOf j) ≡ j)
-    × (saysRead (readAnswer (fileOf j)) ≡ 0 ∷ saysSettings (j .settings) ++ cond (not (eqb (rowsStored j) 0)) 1 0 ∷ 4 ∷ 18 ∷ (partEnd (j .settings) + 4) ∷ (supportEnd (j .settings) (rowsStored j) + 4) ∷ [])
+    × (saysRead (readAnswer (fileOf j)) ≡ 0 ∷ saysSettings (j .settings) ++ cond (not (eqb (rowsStored j) 0)) 1 0 ∷ 4 ∷ 18 ∷ (partEnd (j .settings) + 4)
+    ∷ (supportEnd (j .settings) (rowsStored j) + 4) ∷ [])
 read-back j room w e =
     let v = writable-exactly j room .0 e .0 in
     let r = accepted-exactly (fileOf j) .1 (written-accepted j w v) in

@@ -1,26 +1,25 @@
 -- Demand 3: what acceptance means, that the planned result is accepted, and that every accepted stack holds all planned support.
-use mathlib.Core.Path.{_≡_, refl, sym, ap, _∙_}
-use mathlib.Core.Logic.{_⊎_, inl, inr, ⊎-elim, _↔_}
-use mathlib.Core.Bool.{Bool, true, false, not, _&&_, _||_, cond}
-use mathlib.Core.List.{List, [], _∷_, _++_}
-use Prim.Native.Nat.{ℕ, zero, suc, _+_, _-_, _*_, _/_, _%_, _≤_, _<_}
-use native.Mathlib.Nat.{zero-add, suc-add, not-suc-le-zero, zero-mul, suc-mul}
+use mathlib.Core.Path.{_≡_, refl, sym, _∙_}
+use mathlib.Core.Logic.{inl, inr, ⊎-elim, _↔_}
+use mathlib.Core.Bool.{Bool, true, false, not, _&&_, _||_}
+use mathlib.Core.List.{List}
+use Prim.Native.Nat.{ℕ, zero, suc, _+_, _-_, _*_, _≤_, _<_}
+use native.Mathlib.Nat.{not-suc-le-zero}
 use native.Mathlib.Omega.{arith}
 use lib.Dec.{leb, ltb, eqb}
 use lib.ListN.{getD, length, length-append, List·getD-append}
 use lib.Seq.{getD-append-add}
-use borrow.Author.Tests.{eqb-true, eqb-false, ltb-true, ltb-false, eq-eqb, ne-eqb, lt-ltb, le-ltb, le-leb, leb-true}
+use borrow.Author.Tests.{eqb-true, eqb-false, ltb-true, eq-eqb, lt-ltb, le-ltb, le-leb, leb-true}
 use Rattle.rules.specs.Images.{Plane, Stack, Rings, ringAt}
-use Rattle.rules.specs.Tools.{each, joinedUp}
-use Rattle.rules.specs.Planning.{fits, grow, grown, touch, shadow, seeds, near, reached, ringPlane, excused, supportUnder, topOf, planned, empty}
+use Rattle.rules.specs.Tools.{joinedUp}
+use Rattle.rules.specs.Planning.{fits, grown, touch, shadow, seeds, near, reached, ringPlane, excused, supportUnder, topOf, planned, empty}
 use Rattle.rules.specs.Reach.{distance²}
 use Rattle.rules.specs.Planning.{rings}
 use Rattle.rules.specs.Judging.{overlap, badRing, unheld, verdict}
-use Rattle.rules.specs.declared.Judged.{Judged}
 use Rattle.rules.specs.declared.Judged.the-variants.{Accepted}
 use Rattle.rules.specs.Demands.{Joined, start, onward, freeIn, seedIn, JoinedBy, Excused, Sound}
-use Rattle.laws.specs.Tests.{split, clash, bool-eq, and-l, and-r, and-in, or-l, or-r, or-out, or-cases, some-in, some-out, not-in, not-out, length-each}
-use Rattle.laws.specs.Growing.{Right, chain, ring-joined, ring-fewest, after-right, right-same, length-grown}
+use Rattle.laws.specs.Tests.{split, clash, bool-eq, and-l, and-r, and-in, or-l, or-r, or-out, or-cases, some-in, some-out, not-in, not-out}
+use Rattle.laws.specs.Growing.{Right, chain, ring-fewest, after-right, right-same, length-grown}
 use Rattle.laws.specs.Places.{Nowhere, Passed, accepted-in, accepted-out}
 
 -- Lists of planes -----------------------------------------------------------------------------------------------
@@ -185,7 +184,8 @@ module _ (w h n : ℕ) (q : ℕ → ℕ) (part : Stack) where
   planned-accepted painted = accepted-in w h n q part (planned n part painted ringsOf) ringsOf (sound-accepted (planned n part painted ringsOf) (planned-sound painted))
 
   -- what stands above and is not excused is supported
-  pub supported : (sup : Stack) → Sound w h n q part sup → (i p : ℕ) → suc i < n → p < h * w → part i p ≡ false → (part (suc i) p || sup (suc i) p) ≡ true → (Excused w h q part i p → ⊥) → sup i p ≡ true
+  pub supported : (sup : Stack) → Sound w h n q part sup → (i p : ℕ) → suc i < n → p < h * w → part i p ≡ false → (part (suc i) p || sup (suc i) p) ≡ true → (Excused w h q part i p → ⊥) →
+      sup i p ≡ true
   supported sup s i p l lp f u x =
       ⊎-elim (λ t. ⊎-elim (λ y. clash y f) (λ y. y) (or-out (part i p) _ t)) (λ y. absurd (x y)) (s .holds i p l lp u)
 
@@ -203,7 +203,8 @@ module _ (w h n : ℕ) (q : ℕ → ℕ) (part : Stack) where
       b i p (omega arith) lp (rw y at (and-l (painted (n - 1) p) _ e)) (rw y at (not-out (part (n - 1) p) (and-r (painted (n - 1) p) _ e)))
   least painted sup s b (suc d) i p l lp e =
       let f : part i p ≡ false = search (and-r, not-out) in
-      or-cases (shadow (part i) (part (suc i)) p && eqb (ringsOf i p) 0) (supportUnder part painted ringsOf (topOf n part painted) d (suc i) p) (painted i p) (and-l _ (not (part i p)) (sym (under-step painted ringsOf (topOf n part painted) d i p) ∙ e))
+      or-cases (shadow (part i) (part (suc i)) p && eqb (ringsOf i p) 0) (supportUnder part painted ringsOf (topOf n part painted) d (suc i) p) (painted i p)
+      (and-l _ (not (part i p)) (sym (under-step painted ringsOf (topOf n part painted) d i p) ∙ e))
       (λ t. supported sup s i p (omega arith) lp f (or-l (part (suc i) p) _ (search (and-l)))
       (λ (k, r). omega (arith, ringsOf-fewest i p k (omega arith) lp r, eqb-true (ringsOf i p) 0 (search (and-r)))))
       (λ t. let g : sup (suc i) p ≡ true = least painted sup s b d (suc i) p (omega arith) lp t in
@@ -228,7 +229,8 @@ module _ (w h n : ℕ) (q : ℕ → ℕ) (part : Stack) where
     where
       go : (d : ℕ) → n - 1 - i ≡ d → supportUnder part painted ring (topOf n part painted) d i p ≡ true
       go zero z = let y : n - 1 ≡ i = omega arith in rw (y, t, f)
-      go (suc d) z = under-step painted ring (topOf n part painted) d i p ∙ and-in _ _ (or-r (shadow (part i) (part (suc i)) p && eqb (ring i p) 0 || supportUnder part painted ring (topOf n part painted) d (suc i) p) _ t) (not-in _ f)
+      go (suc d) z = under-step painted ring (topOf n part painted) d i p
+          ∙ and-in _ _ (or-r (shadow (part i) (part (suc i)) p && eqb (ring i p) 0 || supportUnder part painted ring (topOf n part painted) d (suc i) p) _ t) (not-in _ f)
 
   pub mended-again : (painted : Stack) (i p : ℕ) → i < n → p < h * w → planned n part (planned n part painted ringsOf) ringsOf i p ≡ planned n part painted ringsOf i p
   mended-again painted i p l lp =
@@ -263,7 +265,8 @@ unfolding reached near
 reached-wider w h a b low up l p e =
     let (o, lo, t) = some-out (h * w) (λ o. low o && leb (distance² w p o) a) (and-r (shadow low up p) _ e) in
     and-in (shadow low up p) _ (and-l (shadow low up p) _ e)
-    (some-in (h * w) (λ o. low o && leb (distance² w p o) b) o lo (and-in (low o) _ (and-l (low o) _ t) (le-leb (distance² w p o) b (omega (arith, leb-true (distance² w p o) a (and-r (low o) _ t))))))
+    (some-in (h * w) (λ o. low o && leb (distance² w p o) b) o lo
+    (and-in (low o) _ (and-l (low o) _ t) (le-leb (distance² w p o) b (omega (arith, leb-true (distance² w p o) a (and-r (low o) _ t))))))
 
 pub plan-wider : (w h n : ℕ) (q q′ : ℕ → ℕ) (part : Stack) → ((i : ℕ) → q i ≤ q′ i) →
     (i p : ℕ) → i < n → p < h * w → planned n part empty (ringsOf w h n q′ part) i p ≡ true → planned n part empty (ringsOf w h n q part) i p ≡ true

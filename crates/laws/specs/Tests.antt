@@ -2,11 +2,10 @@
 use mathlib.Core.Path.{_≡_, refl, sym, ap, _∙_}
 use mathlib.Core.Logic.{_⊎_, inl, inr}
 use mathlib.Core.Bool.{Bool, true, false, not, _&&_, _||_, true≢false, false≢true}
-use mathlib.Core.List.{List, [], _∷_, _++_}
 use Prim.Native.Nat.{ℕ, zero, suc, _+_, _≤_, _<_}
-use native.Mathlib.Nat.{not-suc-le-zero, add-zero}
+use native.Mathlib.Nat.{not-suc-le-zero}
 use native.Mathlib.Omega.{arith}
-use lib.Dec.{leb, ltb, eqb}
+use lib.Dec.{eqb}
 use borrow.Author.Tests.{eqb-true, eqb-false}
 use lib.ListN.{getD, length}
 use Rattle.rules.specs.Tools.{bit, some, each, count}
@@ -54,6 +53,10 @@ or-cases false false c e f g k = k e
 pub or-none : (a b : Bool) → (a || b) ≡ false → b ≡ false
 or-none true b e = clash refl e
 or-none false b e = e
+
+pub none-of : (a b : Bool) → (a || b) ≡ false → (a ≡ false) × (b ≡ false)
+none-of true b e = clash refl e
+none-of false b e = (refl, e)
 
 pub or-false : (a : Bool) → (a || false) ≡ a
 or-false true = refl

@@ -2,7 +2,7 @@
 use mathlib.Core.Path.{_≡_, refl, sym, ap, _∙_}
 use mathlib.Core.Bool.{Bool, true, false, not, _&&_, _||_}
 use mathlib.Core.List.{List}
-use Prim.Native.Nat.{ℕ, zero, suc, _+_, _-_, _*_, _/_, _%_, _^_, _<_, _≤_}
+use Prim.Native.Nat.{ℕ, _+_, _-_, _*_, _/_, _%_, _^_, _<_, _≤_}
 use native.Mathlib.Nat.{mod-lt}
 use native.Mathlib.Omega.{arith}
 use native.Mathlib.Decide.{decLt, ℕ-discrete}
@@ -11,7 +11,6 @@ use lib.Bits.{bitAnd, bitOr}
 use lib.Dec.{eqb}
 use lib.ListN.{getD}
 use lib.Pow.{shl-exact, shl-shr, pow-pos, pow-lt, low}
-use Rattle.rules.specs.Images.{bitAt}
 use Rattle.laws.specs.Tests.{split, clash, and-in}
 use Rattle.words.specs.Words.{Digits, place, bitOfWord, flat, wordBit, rowAt}
 use Rattle.words.specs.Digits.{place-shr, place-mod-below, place-small, place-zero, place-and, place-or, place-not}

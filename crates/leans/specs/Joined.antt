@@ -2,7 +2,7 @@
 use mathlib.Core.Path.{_≡_, refl, sym, ap, subst, _∙_}
 use mathlib.Core.Bool.{Bool, true, false, not, _&&_, _||_, cond}
 use mathlib.Core.List.{List}
-use Prim.Native.Nat.{ℕ, zero, suc, _+_, _-_, _*_, _/_, _%_, _^_, _<_, _≤_}
+use Prim.Native.Nat.{ℕ, zero, suc, _+_, _-_, _*_, _/_, _^_, _<_, _≤_}
 use native.Mathlib.Nat.{add-mul}
 use native.Mathlib.Omega.{arith}
 use borrow.Author.Count.{below-more}
@@ -34,10 +34,6 @@ or-right a b = omega (arith, or-add-and a b, and-le-l a b)
 
 pub gathered-more : (f : ℕ → ℕ) (j all : ℕ) → ((k : ℕ) → k < j → f k ≤ all) → (k : ℕ) → k < j + 1 → f k ≤ bitOr all (f j)
 gathered-more f j all h = below-more (λ k. f k ≤ bitOr all (f j)) j (λ k l. omega (arith, h k l, or-left all (f j))) (or-right all (f j))
-
--- none of n rings, where they come to 0
-pub quiet-at : (rings : List ℕ) (at x n all k : ℕ) → all ≡ 0 → ((j : ℕ) → j < n → getD rings (at + x + j) 0 ≤ all) → k < n → getD rings (at + (x + k)) 0 ≡ 0
-quiet-at rings at x n all k e le l = let z : at + x + k ≡ at + (x + k) = omega arith in let m : getD rings (at + x + k) 0 ≤ all = le k l in omega (arith, rw z at m)
 
 -- one more stretch of 256 pixels, or the rest
 pub quiet-more : (rings : List ℕ) (x j n all m : ℕ) → (all ≡ 0 → (k : ℕ) → k < j → getD rings (x + k) 0 ≡ 0) → ((k : ℕ) → k < n → getD rings (x + j + k) 0 ≤ m) → bitOr all m ≡ 0 →
@@ -151,13 +147,13 @@ module _ (w h : ℕ) (rings : List ℕ) (r x free first b : ℕ) where
   GotTo n got = (k : ℕ) → k < 64 → x + k < w → bitOfWord got k ≡ cond (ltb k (8 * n)) (ltb 0 (getD rings (r * w + (x + k)) 0)) (bitOfWord first k)
 
   -- no ring before byte b is larger
-  abbrev pub Least : ℕ → ℕ → Type 0
-  Least n most = (1 ≤ most) × ((k : ℕ) → k < 8 * n → x + k < w → getD rings (r * w + (x + k)) 0 ≤ most)
+  abbrev pub AtMost : ℕ → ℕ → Type 0
+  AtMost n most = (1 ≤ most) × ((k : ℕ) → k < 8 * n → x + k < w → getD rings (r * w + (x + k)) 0 ≤ most)
 
   before-next : Before (8 * b) → ((k : ℕ) → 8 * b ≤ k → k < 8 * b + 8 → x + k < w → Good w h (bitOfWord free k) (bitOfWord first k) rings r (x + k)) → Before (8 * (b + 1))
   before-next old new k z l lw = split (ltb k (8 * b)) (λ t. old k z (ltb-true k (8 * b) t) lw) (λ t. new k (ltb-false k (8 * b) t) (omega arith) lw)
 
-  least-next : (m n : ℕ) → m ≤ n → Least b m → ((k : ℕ) → 8 * b ≤ k → k < 8 * b + 8 → x + k < w → getD rings (r * w + (x + k)) 0 ≤ n) → Least (b + 1) n
+  least-next : (m n : ℕ) → m ≤ n → AtMost b m → ((k : ℕ) → 8 * b ≤ k → k < 8 * b + 8 → x + k < w → getD rings (r * w + (x + k)) 0 ≤ n) → AtMost (b + 1) n
   least-next m n le (o, old) new = (omega arith, λ k l lw. split (ltb k (8 * b)) (λ t. omega (arith, old k (ltb-true k (8 * b) t) lw)) (λ t. new k (ltb-false k (8 * b) t) (omega arith) lw))
 
   -- k lies before byte b, in it or behind
@@ -181,7 +177,7 @@ module _ (w h : ℕ) (rings : List ℕ) (r x free first b : ℕ) where
     pub alike-before : Before (8 * b) → Before (8 * (b + 1))
     alike-before old = before-next old (λ k lo hi lw. good-bit w h (bitOfWord free k) (bitOfWord first k) rings r (x + k) (alike-ring k lo hi))
 
-    pub alike-least : (most : ℕ) → Least b most → Least (b + 1) most
+    pub alike-least : (most : ℕ) → AtMost b most → AtMost (b + 1) most
     alike-least most old = least-next most most (omega arith) old (λ k lo hi lw. omega (arith, alike-ring k lo hi, bit-small (bitOfWord first k), old .0))
 
     pub alike-got : (got : ℕ) → b < 8 → GotTo b got → GotTo (b + 1) got
@@ -193,19 +189,25 @@ module _ (w h : ℕ) (rings : List ℕ) (r x free first b : ℕ) where
     pub told-before : Before (8 * b) → Before (8 * (b + 1))
     told-before old = before-next old (λ k lo hi lw. T .fine g k lo (ge k hi lw) lw)
 
-    pub told-least : (most : ℕ) → Least b most → Least (b + 1) (bitOr most (t .most))
+    pub told-least : (most : ℕ) → AtMost b most → AtMost (b + 1) (bitOr most (t .most))
     told-least most old = least-next most (bitOr most (t .most)) (or-left most (t .most)) old (λ k lo hi lw. omega (arith, T .most g k lo (ge k hi lw) lw, or-right most (t .most)))
 
     pub told-got : (got p : ℕ) → ((k : ℕ) → k < 64 → bitOfWord p k ≡ ((bitOfWord got k && not (eqb (k / 8) b)) || bitOfWord (t .got) k)) → GotTo b got → GotTo (b + 1) p
     told-got got p patch old = got-next got p old
-        (λ k l out. patch k l ∙ rw (ne-eqb (k / 8) b (λ z. out (omega arith) (omega arith)), T .gets g .only k l (λ lo hi. out lo (omega arith)), and-true (bitOfWord got k), or-false (bitOfWord got k)))
+        (λ k l out. patch k l ∙ rw (
+          ne-eqb (k / 8) b (λ z. out (omega arith) (omega arith)),
+          T .gets g .only k l (λ lo hi. out lo (omega arith)),
+          and-true (bitOfWord got k),
+          or-false
+              (bitOfWord got k),
+        ))
         (λ k lo hi lw. patch k (omega arith) ∙ rw (eq-eqb (k / 8) b (omega arith), and-false (bitOfWord got k)) (T .gets g .has k lo (ge k hi lw) lw))
 
 -- what the bytes before byte b tell
 pub record Upto (w h : ℕ) (rings : List ℕ) (r x free first b got most : ℕ) : Type 0 where
   pub good : Before w h rings r x free first b (8 * b)
   pub gets : GotTo w h rings r x free first b b got
-  pub least : Least w h rings r x free first b b most
+  pub least : AtMost w h rings r x free first b b most
 
 -- bytes that are alike are passed over: n of them from byte b on
 pub upto-alike : (w h : ℕ) (rings : List ℕ) (r x free first got most b n : ℕ) → b + n ≤ 8 → ((k : ℕ) → b ≤ k → k < b + n → Alike rings (r * w + x) first k) →
@@ -227,7 +229,8 @@ upto-next w h rings r x free first got most b d lo hi like u =
     rw z at (upto-alike w h rings r x free first got most b (d - b) (omega arith) (λ k a e. like k a (omega arith)) u)
 
 -- a word without rings
-pub quiet-told : (w h : ℕ) (rings : List ℕ) (r x free first : ℕ) (b : Bool) → (b ≡ true → (k : ℕ) → k < 64 → x + k < w → getD rings (r * w + (x + k)) 0 ≡ 0) → Tells w h rings r x 0 64 free first (record { good = b; got = 0; most = 0 })
+pub quiet-told : (w h : ℕ) (rings : List ℕ) (r x free first : ℕ) (b : Bool) → (b ≡ true → (k : ℕ) → k < 64 → x + k < w → getD rings (r * w + (x + k)) 0 ≡ 0) →
+    Tells w h rings r x 0 64 free first (record { good = b; got = 0; most = 0 })
 quiet-told w h rings r x free first b none = record {
   fine = λ e k lo hi lw. good-none w h (bitOfWord free k) (bitOfWord first k) rings r (x + k) (none e k hi lw);
   gets = λ e. record { has = λ k lo hi lw. bit-zero k ∙ rw (none e k hi lw); only = λ k l out. bit-zero k };

@@ -7,12 +7,6 @@ ghost use lib.ListN.{length};
 ghost use Rattle.rules.specs.Images.{bitAt};
 ghost use Rattle.words.specs.Words.{bitOfWord, wordBit};
 
-pub fn both(a: bool, b: bool) -> bool
-    ensures { λ r. ⌜ r ≡ (a && b) ⌝ }
-{
-    if a { b } else { false }
-}
-
 pub fn bit(x: u64, k: usize) -> bool
     requires { ⌜ k < 64 ⌝ }
     ensures { λ b. ⌜ b ≡ bitOfWord x k ⌝ }

@@ -8,18 +8,12 @@ ghost use Rattle.rules.specs.Images.{bitAt};
 ghost use Rattle.words.specs.Words.{Ones};
 ghost use Rattle.leans.specs.Leaning.{Alike};
 
-fn wide(m: u8) -> usize
-    ensures { λ r. ⌜ (r ≡ m) × (r < 256) ⌝ }
-{
-    m as usize
-}
-
 // Whether the eight pixels from x on have ring 1 where m has a bit, and else none.
 pub fn alike(rings: &[u16], ones: &[u16], x: usize, m: u8) -> bool
     requires { ⌜ (x + 8 ≤ length (now rings)) × Ones (now ones) ⌝ }
     ensures { λ b. ⌜ (b ≡ true → (k : ℕ) → k < 8 → getD (now (rings .entry)) (x + k) 0 ≡ bit (bitAt m k)) ⌝ }
 {
-    let at = wide(m) * 8;
+    let at = numbers::wide(m) * 8;
     let mut all: u16 = 0;
     let mut k = 0;
     while k < 8 {

@@ -13,7 +13,7 @@ fn beside(x: usize, i: usize, n: usize) -> usize
     requires { ⌜ (x < n) × ((i < 3) × (n ≤ 256)) ⌝ }
     ensures { λ y. ⌜ (y < n) × ((x ≤ y + 1) × (y ≤ x + 1)) ⌝ }
 {
-    places::bits::less(places::bits::smaller(x + i, n), 1)
+    numbers::less(numbers::lesser(x + i, n), 1)
 }
 
 // Whether a neighbour has ring v, which the pixel itself has not.
@@ -91,7 +91,7 @@ fn good(
     if !crate::bits::bit(free, k) {
         return false;
     }
-    if crate::bits::both(inside(r, h), inside(x + k, w)) {
+    if numbers::both(inside(r, h), inside(x + k, w)) {
         return steps_inside(rings, w, h, r, x + k, v - 1);
     }
     steps(rings, w, h, r, x + k, v - 1)

@@ -41,7 +41,7 @@ fn eights(
     let mut most: u16 = 1;
     let mut b = next(rings, ones, at, first, 0, n);
     while 8 * b < n {
-        let end = places::bits::smaller(8 * b + 8, n);
+        let end = numbers::lesser(8 * b + 8, n);
         let t = crate::steps::pixels(rings, w, h, r, x, 8 * b, end, free, first);
         if !t.good {
             return t;
@@ -78,7 +78,7 @@ fn word(
             most: 0,
         };
     }
-    let n = places::bits::smaller(w - x, 64);
+    let n = numbers::lesser(w - x, 64);
     if free == 0 {
         return Told {
             good: crate::marks::none(rings, r * w + x, n),
@@ -106,7 +106,8 @@ pub fn row(
     requires rows { ⌜ (length (now free) ≡ 4) × ((length (now first) ≡ 4) × ((length (now hang) ≡ 4) × (length (now got) ≡ 4))) ⌝ }
     ensures { λ s. ⌜ (s .rings ≡ true → (c : ℕ) → c < w → Good w h (wordBit (now (free .entry)) c) (wordBit (now (first .entry)) c) (now (rings .entry)) r c) ⌝ }
     ensures { λ s. ⌜ (s .held ≡ true → (c : ℕ) → c < w → wordBit (now (hang .entry)) c ≡ true → 0 < getD (now (rings .entry)) (r * w + c) 0) ⌝ }
-    ensures { λ s. ⌜ (s .rings ≡ true → (c : ℕ) → c < w → (getD (now (rings .entry)) (r * w + c) 0 ≤ s .most) × (0 < getD (now (rings .entry)) (r * w + c) 0 → wordBit (now (got .exit)) c ≡ true)) ⌝ }
+    ensures { λ s. ⌜ (s .rings ≡ true → (c : ℕ) → c < w → (getD (now (rings .entry)) (r * w + c) 0 ≤ s .most)
+        × (0 < getD (now (rings .entry)) (r * w + c) 0 → wordBit (now (got .exit)) c ≡ true)) ⌝ }
 {
     let mut bare: u64 = 0;
     let mut most: u16 = 0;

@@ -133,7 +133,8 @@ layer-short s part sup ring i r l =
     let E : ℕ → Bool = excused (ringAt (s .w) (s .h) ring) i in
     let z = layer-is s part sup ring i (count (s .h * s .w) P) (count (s .h * s .w) T) (cond (ltb (suc i) (s .n)) (count (s .h * s .w) E) 0) refl refl refl in
     subst (λ (t : List ℕ). length t ≤ 24) z
-    (line-length i _ _ _ (omega arith) (omega (arith, count-le (s .h * s .w) P)) (omega (arith, count-le (s .h * s .w) T)) (above (ltb (suc i) (s .n)) (count (s .h * s .w) E) (omega (arith, count-le (s .h * s .w) E))))
+    (line-length i _ _ _ (omega arith) (omega (arith, count-le (s .h * s .w) P)) (omega (arith, count-le (s .h * s .w) T))
+    (above (ltb (suc i) (s .n)) (count (s .h * s .w) E) (omega (arith, count-le (s .h * s .w) E))))
   where
     above : (b : Bool) (n : ℕ) → n < 100000 → cond b n 0 < 100000
     above true n h = h

@@ -1,14 +1,14 @@
 -- Numbers and words as runs of bytes: what each store of the code comes to.
 use mathlib.Core.Path.{_≡_, refl, sym, ap, _∙_}
-use mathlib.Core.List.{List, [], _∷_, _++_}
-use Prim.Native.Nat.{ℕ, zero, suc, _+_, _*_, _/_, _%_, _<_, _≤_}
+use mathlib.Core.List.{List, [], _∷_}
+use Prim.Native.Nat.{ℕ, suc, _+_, _/_, _%_, _<_, _≤_}
 use native.Mathlib.Numerals.{add-one}
 use native.Mathlib.Omega.{arith}
-use lib.ListN.{length, getD, take, drop, set, length-append, length-set}
+use lib.ListN.{length, getD, take, set, length-append, length-set}
 use lib.Seq.{length-take-le, take-suc, take-length}
 use Rattle.rules.specs.Jobs.{over}
 use Rattle.rules.specs.Report.{decimal, spaced}
-use Rattle.laws.specs.Runs.{stores1, length-over, after, over-none}
+use Rattle.laws.specs.Runs.{stores1, length-over, after}
 use Rattle.laws.specs.ReportLaws.{decimal-small, decimal-more}
 
 module _ (out : List ℕ) (at x : ℕ) (fits : at + length (decimal x) ≤ length out) where

@@ -1,24 +1,22 @@
 -- The whole text of a planned job: its first line and a line for each layer, from the top down, as the loop writes them.
 use mathlib.Core.Path.{_≡_, refl, sym, ap, subst, _∙_}
-use mathlib.Core.Bool.{Bool, true, false, cond}
-use mathlib.Core.List.{List, [], _∷_, _++_, append-assoc, append-nil}
+use mathlib.Core.List.{List, _++_, append-assoc, append-nil}
 use Prim.Native.Nat.{ℕ, zero, suc, _+_, _-_, _*_, _≤_, _<_}
-use native.Mathlib.Nat.{mul-le-mul, add-suc}
+use native.Mathlib.Nat.{mul-le-mul}
 use native.Mathlib.Numerals.{add-one}
 use native.Mathlib.Omega.{arith}
-use lib.Dec.{ltb}
 use lib.ListN.{length, length-append}
 use borrow.Author.Tests.{lt-ltb, le-ltb}
 use Rattle.rules.specs.Tools.{count, joinedUp, refusal}
-use Rattle.rules.specs.Images.{Stack, Rings, pixel, rowBytes, rowsOf, stackBytes, ringsIn, ringAt}
+use Rattle.rules.specs.Images.{Rings, pixel, rowBytes, rowsOf, stackBytes, ringsIn, ringAt}
 use Rattle.rules.specs.Reach.{reachOf, boundOf}
 use Rattle.rules.specs.Planning.{excused, plannedRings, plannedBytes}
 use Rattle.rules.specs.Jobs.{over}
 use Rattle.rules.specs.Calls.{settingCases}
-use Rattle.rules.specs.Report.{decimal, spaced, newline, jobLine, filled, excusedAbove, layerLine, planLines}
+use Rattle.rules.specs.Report.{jobLine, filled, excusedAbove, layerLine, planLines}
 use Rattle.rules.specs.declared.Settings.{Settings}
 use Rattle.laws.specs.Limits.{Ranged, ranged}
-use Rattle.lines.specs.Lines.{lineOf, line-length, spaced-length, jobWord, reachWord, job-pieces, Wrote, wrote-more, wrote-long}
+use Rattle.lines.specs.Lines.{lineOf, line-length, spaced-length, job-pieces, Wrote, wrote-more, wrote-long}
 use Rattle.laws.specs.Runs.{over-none}
 use Rattle.lines.specs.Counts.{Layer}
 
@@ -30,7 +28,8 @@ unfoldable pub linesTo : Settings → List ℕ → List ℕ → List ℕ → ℕ
 linesTo s part sup ring k = jobLine s ++ joinedUp 0 k (layerOf s part sup ring)
 
 -- of the planned support and rings it is the report's
-pub planned-lines : (s : Settings) (part : List ℕ) → linesTo s part (plannedBytes (s .w) (s .h) (s .n) (boundOf s) part) (plannedRings (s .w) (s .h) (s .n) (boundOf s) part) (s .n) ≡ planLines s part
+pub planned-lines : (s : Settings) (part : List ℕ) →
+    linesTo s part (plannedBytes (s .w) (s .h) (s .n) (boundOf s) part) (plannedRings (s .w) (s .h) (s .n) (boundOf s) part) (s .n) ≡ planLines s part
 unfolding linesTo layerOf planLines
 planned-lines s part = refl
 
@@ -93,7 +92,14 @@ job-short s r =
     let hn = r .n-high in
     let hr = r .reach-high in
     rw (job-pieces s)
-    (simp length-append (omega (arith, spaced-length (s .w) (omega arith), spaced-length (s .h) (omega arith), spaced-length (s .n) (omega arith), spaced-length (reachOf (s .pitch) (s .overhang) .0) (omega arith))))
+    (simp length-append (omega (
+      arith,
+      spaced-length (s .w) (omega arith),
+      spaced-length (s .h) (omega arith),
+      spaced-length (s .n) (omega arith),
+      spaced-length
+          (reachOf (s .pitch) (s .overhang) .0) (omega arith),
+    )))
 
 -- one line more
 joined-more : (k : ℕ) (a : ℕ) (f : ℕ → List ℕ) → joinedUp a (suc k) f ≡ joinedUp a k f ++ f (a + k)
@@ -128,24 +134,24 @@ pub record Lined (s : Settings) (part sup ring was now : List ℕ) (start at : �
   pub wrote : Wrote was start now at (joinedUp 0 (s .n) (layerOf s part sup ring))
 
 -- the loop: from `start` on k lines are written, each of at most 24 bytes
-pub record Going (s : Settings) (part sup ring was now : List ℕ) (start at k : ℕ) : Type 0 where
+pub record LinesSoFar (s : Settings) (part sup ring was now : List ℕ) (start at k : ℕ) : Type 0 where
   pub wrote : Wrote was start now at (joinedUp 0 k (layerOf s part sup ring))
   pub short : at ≤ start + 24 * k
 
-pub going-start : (s : Settings) (part sup ring was : List ℕ) (start : ℕ) → start ≤ length was → Going s part sup ring was was start start 0
+pub no-lines-yet : (s : Settings) (part sup ring was : List ℕ) (start : ℕ) → start ≤ length was → LinesSoFar s part sup ring was was start start 0
 unfolding joinedUp
-going-start s part sup ring was start h = record {
+no-lines-yet s part sup ring was start h = record {
   wrote = record { ends = omega arith; holds = over-none was start; fits = omega arith };
   short = omega arith;
 }
 
-pub going-room : (s : Settings) (part sup ring was now : List ℕ) (start at k : ℕ) → k < s .n → start + 24 * s .n ≤ length was → Going s part sup ring was now start at k → at + 24 ≤ length now
-going-room s part sup ring was now start at k lk h g = omega (arith, wrote-long (g .wrote), g .short)
+pub line-room : (s : Settings) (part sup ring was now : List ℕ) (start at k : ℕ) → k < s .n → start + 24 * s .n ≤ length was → LinesSoFar s part sup ring was now start at k → at + 24 ≤ length now
+line-room s part sup ring was now start at k lk h g = omega (arith, wrote-long (g .wrote), g .short)
 
-pub going-on : (s : Settings) (part sup ring was now new : List ℕ) (start at r k : ℕ) → start + 24 * s .n ≤ length was → k < s .n → Going s part sup ring was now start at k →
-    Counted s part sup ring (s .n - 1 - k) at r new now → Going s part sup ring was new start r (k + 1)
+pub line-more : (s : Settings) (part sup ring was now new : List ℕ) (start at r k : ℕ) → start + 24 * s .n ≤ length was → k < s .n → LinesSoFar s part sup ring was now start at k →
+    Counted s part sup ring (s .n - 1 - k) at r new now → LinesSoFar s part sup ring was new start r (k + 1)
 unfolding layerOf
-going-on s part sup ring was now new start at r k h lk g c =
+line-more s part sup ring was now new start at r k h lk g c =
     let z : joinedUp 0 (k + 1) (layerOf s part sup ring) ≡ joinedUp 0 k (layerOf s part sup ring) ++ layerOf s part sup ring k = joined-next k (layerOf s part sup ring) in
     let e = g .wrote .ends in
     let l = length-append (joinedUp 0 k (layerOf s part sup ring)) (layerOf s part sup ring k) in
@@ -154,7 +160,7 @@ going-on s part sup ring was now new start at r k h lk g c =
     let w = wrote-more (g .wrote) new r (layerOf s part sup ring k) f (c .ends, c .holds) in
     record { wrote = subst (Wrote was start new r) (sym z) w; short = omega (arith, g .short, c .ends) }
 
-pub going-end : (s : Settings) (part sup ring was now : List ℕ) (start at k : ℕ) → k ≤ s .n → s .n ≤ k → Going s part sup ring was now start at k → Lined s part sup ring was now start at
+pub going-end : (s : Settings) (part sup ring was now : List ℕ) (start at k : ℕ) → k ≤ s .n → s .n ≤ k → LinesSoFar s part sup ring was now start at k → Lined s part sup ring was now start at
 going-end s part sup ring was now start at k a b g =
     let e : k ≡ s .n = omega arith in
     record { wrote = subst (λ (j : ℕ). Wrote was start now at (joinedUp 0 j (layerOf s part sup ring))) e (g .wrote) }

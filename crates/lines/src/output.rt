@@ -15,12 +15,6 @@ ghost use Rattle.rules.specs.Report.{planLines, refusedLine};
 ghost use Rattle.rules.specs.Outcomes.{Reports};
 ghost use Rattle.lines.specs.Printed.{Printed, Room, Planable};
 
-fn wide(k: u8) -> usize
-    ensures { λ r. ⌜ (r ≡ k) × (r < 256) ⌝ }
-{
-    k as usize
-}
-
 // The lines of a part that is planned into buffers of the right lengths.
 fn planned_lines(
     s: Settings,
@@ -84,7 +78,7 @@ pub fn report(file: &[u8], more: bool, out: &mut [u8; 16384]) -> usize
         return refused_line(out, 17);
     }
     match job::read(file) {
-        ReadJob::Refused(k) => refused_line(out, wide(k)),
+        ReadJob::Refused(k) => refused_line(out, numbers::wide(k)),
         ReadJob::Job(l) => {
             let s = l.settings;
             read_text(s, job::part(file), out)

@@ -3,24 +3,24 @@ use mathlib.Core.Path.{_≡_, refl, sym, ap, ap₂, subst, _∙_}
 use mathlib.Core.Bool.{Bool, true, false, not, _&&_}
 use mathlib.Core.List.{List}
 use mathlib.Core.Logic.{_⊎_, inl, inr, ⊎-elim}
-use Prim.Native.Nat.{ℕ, _+_, _-_, _*_, _/_, _%_, _<_, _≤_}
+use Prim.Native.Nat.{ℕ, _+_, _-_, _*_, _<_, _≤_}
 use native.Mathlib.Omega.{arith}
-use native.Mathlib.Decide.{decLt, decLe, ℕ-discrete}
-use borrow.Author.Tests.{lt-ltb, le-ltb}
+use native.Mathlib.Decide.{decLt, ℕ-discrete}
+use borrow.Author.Tests.{le-ltb}
 use lib.Dec.{ltb}
-use lib.ListN.{length, getD, set, length-set}
+use lib.ListN.{length, getD, set}
 use lib.Seq.{getD-set-same, getD-set-other}
 use Rattle.rules.specs.Images.{Plane, rowBytes}
 use Rattle.rules.specs.Planning.{shadow, seeds}
-use Rattle.laws.specs.Tests.{split, clash, and-l, and-r, and-in, not-out}
+use Rattle.laws.specs.Tests.{split, clash}
 use Rattle.image.specs.Rows.{packed, Clean}
-use Rattle.words.specs.Words.{wordBit, column, rowPart}
+use Rattle.words.specs.Words.{wordBit, rowPart}
 use Rattle.planes.specs.PlaneLaws.{row-bit}
-use Rattle.planes.specs.Scratch.{spot, Sizes, Pixel, Framed, Ready, Drawn, seen, rowBit, RowPut}
+use Rattle.planes.specs.Scratch.{Sizes, Pixel, Ready, Drawn, rowBit, RowPut}
 use Rattle.waves.specs.RowLaws.{put-bits, upto-row, gap-none, none-before, none-behind}
-use Rattle.waves.specs.Rows.{Aheads, Room, RowBits, Upto}
-use Rattle.rings.specs.ByteLaws.{row-column, bits-at, bits-pixel, bits-off, drawn-bits}
-use Rattle.rings.specs.Landing.{pixelBits}
+use Rattle.waves.specs.Rows.{Aheads, Room, Upto}
+use Rattle.rings.specs.ByteLaws.{row-column, bits-at, bits-off, drawn-bits}
+use Rattle.rings.specs.NearRings.{pixelBits}
 use Rattle.pair.specs.Found.{FoundRow, Below, AheadFrom, Empty}
 
 pub empty-ready : (w h : ℕ) (l : List ℕ) → Empty l → Ready w h l
@@ -38,7 +38,8 @@ module _ (w h : ℕ) (z : Sizes w h) (f : Plane) (was : List ℕ) (R : Ready w h
   pub below-start : Below h (pixelBits w h f) was was
   below-start = record { inner = λ j x. off j (λ P. omega (arith, P .here, P .row-in, P .column-in, z .w-max)); outer = λ j x. refl }
 
-  pub below-row : (y : ℕ) (x : ℕ → Bool) (mid now : List ℕ) → y < h → ((c : ℕ) → c < 256 → x c ≡ (ltb c w && f (y * w + c))) → RowPut (y + 33) x mid now → Below (y + 1) (pixelBits w h f) was mid → Below y (pixelBits w h f) was now
+  pub below-row : (y : ℕ) (x : ℕ → Bool) (mid now : List ℕ) → y < h → ((c : ℕ) → c < 256 → x c ≡ (ltb c w && f (y * w + c))) → RowPut (y + 33) x mid now → Below (y + 1) (pixelBits w h f) was mid →
+      Below y (pixelBits w h f) was now
   below-row y x mid now ly X P B =
       let W = put-bits (y + 33) x (pixelBits w h f) mid now (λ c l. X c l ∙ sym (bits-at w h f y c ly (omega arith))) P in
       record {
@@ -65,11 +66,13 @@ ahead-start w h z f ahead l = record {
   off = λ k j a b x y. bits-off w h f j (λ P. let e : k ≡ h = omega arith in omega (arith, P .here, P .row-in, P .column-in, z .w-max));
 }
 
-pub ahead-more : (h y r : ℕ) (g : ℕ → Bool) (ahead : List ℕ) → y < h → y < length ahead → (r ≡ y) ⊎ ((r ≡ getD ahead (y + 1) 0) × ((j : ℕ) → (y + 33) * 320 ≤ j → j < (y + 1 + 33) * 320 → g j ≡ false))
+pub ahead-more : (h y r : ℕ) (g : ℕ → Bool) (ahead : List ℕ) → y < h → y < length ahead →
+    (r ≡ y) ⊎ ((r ≡ getD ahead (y + 1) 0) × ((j : ℕ) → (y + 33) * 320 ≤ j → j < (y + 1 + 33) * 320 → g j ≡ false))
     → AheadFrom h (y + 1) g ahead → AheadFrom h y g (set ahead y r)
 ahead-more h y r g ahead ly ll c A = record {
   on = λ k a b. elim (ℕ-discrete k y) [
-    | yes e ↦ rw (e, getD-set-same ahead y r 0 ll) (⊎-elim (λ (q : r ≡ y). (omega arith, omega arith)) (λ (q, n). let o = A .on (y + 1) (omega arith) (omega arith) in (omega (arith, o .0), omega (arith, o .1))) c)
+    | yes e ↦ rw (e, getD-set-same ahead y r 0 ll) (⊎-elim (λ (q : r ≡ y). (omega arith, omega arith))
+        (λ (q, n). let o = A .on (y + 1) (omega arith) (omega arith) in (omega (arith, o .0), omega (arith, o .1))) c)
     | no e ↦ rw (getD-set-other ahead y k r 0 e) (A .on k (omega arith) b)
   ];
   off = λ k j a b lo hi. elim (ℕ-discrete k y) [
@@ -87,9 +90,6 @@ ahead-more h y r g ahead ly ll c A = record {
 
 pub ahead-all : (h : ℕ) (g : ℕ → Bool) (ahead : List ℕ) → length ahead ≡ 257 → AheadFrom h 0 g ahead → Aheads h ahead
 ahead-all h g ahead e A = record { long = e; on = λ k l. A .on k (omega arith) l }
-
-pub ahead-room : (w h : ℕ) (f : Plane) (ahead l : List ℕ) → Ready w h l → AheadFrom h 0 (pixelBits w h f) ahead → Below 0 (pixelBits w h f) l l → Room w h ahead l
-ahead-room w h f ahead l R A B = record { ready = R; sparse = λ k j a lo hi. B .inner j (omega arith) ∙ A .off k j (omega arith) a lo hi }
 
 pub found-room : (w h : ℕ) (f : Plane) (ahead was l : List ℕ) → Ready w h l → AheadFrom h 0 (pixelBits w h f) ahead → Below 0 (pixelBits w h f) was l → Room w h ahead l
 found-room w h f ahead was l R A B = record { ready = R; sparse = λ k j a lo hi. B .inner j (omega arith) ∙ A .off k j (omega arith) a lo hi }
@@ -118,7 +118,8 @@ module _ (w h n y : ℕ) (low up : List ℕ) (z : Sizes w h) (en : n ≡ rowByte
       fold false b d = refl
 
   -- where a row has no shadow, it has no bit of the shadow
-  pub no-shadow-row : ((c : ℕ) → (rowPart up (y * n) n c && not (rowPart low (y * n) n c)) ≡ false) → (j : ℕ) → (y + 33) * 320 ≤ j → j < (y + 1 + 33) * 320 → pixelBits w h (shadow (packed w low) (packed w up)) j ≡ false
+  pub no-shadow-row : ((c : ℕ) → (rowPart up (y * n) n c && not (rowPart low (y * n) n c)) ≡ false) → (j : ℕ) → (y + 33) * 320 ≤ j → j < (y + 1 + 33) * 320 →
+      pixelBits w h (shadow (packed w low) (packed w up)) j ≡ false
   no-shadow-row e j lo hi =
       let c : ℕ = j - (y + 33) * 320 in
       let q : (y + 33) * 320 + c ≡ j = omega arith in
@@ -128,7 +129,8 @@ named : (k : ℕ) (f g : ℕ → Bool) (was now : List ℕ) → ((c : ℕ) → f
 named k f g was now e W = record { inner = λ j x y. W .inner j x y ∙ e (j - k * 320); before = W .before; behind = W .behind }
 
 -- `find_row`, from its parts
-pub found : (y n last : ℕ) (low up left left' seed seed' : List ℕ) (u l b s : ℕ → Bool) → ((c : ℕ) → u c ≡ rowPart up (y * n) n c) → ((c : ℕ) → l c ≡ rowPart low (y * n) n c) → ((c : ℕ) → b c ≡ (l c && u c))
+pub found : (y n last : ℕ) (low up left left' seed seed' : List ℕ) (u l b s : ℕ → Bool) → ((c : ℕ) → u c ≡ rowPart up (y * n) n c) → ((c : ℕ) → l c ≡ rowPart low (y * n) n c) →
+    ((c : ℕ) → b c ≡ (l c && u c))
     → ((c : ℕ) → s c ≡ (u c && not (l c))) → RowPut (y + 33) b seed seed' → RowPut (y + 33) s left left' → FoundRow y n last y low up left left' seed seed'
 found y n last low up left left' seed seed' u l b s U L B S P Q = record {
   seed-row = named (y + 33) b _ seed seed' (λ c. B c ∙ ap₂ _&&_ (L c) (U c)) P;
@@ -136,7 +138,8 @@ found y n last low up left left' seed seed' u l b s U L B S P Q = record {
   at = inl refl;
 }
 
-pub found-none : (y n last : ℕ) (low up left seed seed' : List ℕ) (u l b s : ℕ → Bool) → ((c : ℕ) → u c ≡ rowPart up (y * n) n c) → ((c : ℕ) → l c ≡ rowPart low (y * n) n c) → ((c : ℕ) → b c ≡ (l c && u c))
+pub found-none : (y n last : ℕ) (low up left seed seed' : List ℕ) (u l b s : ℕ → Bool) → ((c : ℕ) → u c ≡ rowPart up (y * n) n c) → ((c : ℕ) → l c ≡ rowPart low (y * n) n c) →
+    ((c : ℕ) → b c ≡ (l c && u c))
     → ((c : ℕ) → s c ≡ (u c && not (l c))) → RowPut (y + 33) b seed seed' → ((c : ℕ) → s c ≡ false) → FoundRow y n last last low up left left seed seed'
 found-none y n last low up left seed seed' u l b s U L B S P e = record {
   seed-row = named (y + 33) b _ seed seed' (λ c. B c ∙ ap₂ _&&_ (L c) (U c)) P;
@@ -166,8 +169,10 @@ module _ (w h n y last r : ℕ) (low up left0 left left' seed0 seed seed' : List
         | no l ↦ ap (λ (b : Bool). b && wordBit left ((y + 33) * 320 + c)) (le-ltb c 256 (omega arith))
       ])) B
 
-  pub ahead-next : (ahead : List ℕ) → last ≡ getD ahead (y + 1) 0 → y < length ahead → AheadFrom h (y + 1) (pixelBits w h (shadow (packed w low) (packed w up))) ahead → AheadFrom h y (pixelBits w h (shadow (packed w low) (packed w up))) (set ahead y r)
-  ahead-next ahead e l A = ahead-more h y r (pixelBits w h (shadow (packed w low) (packed w up))) ahead ly l (⊎-elim (λ q. inl q) (λ (q, s). inr (q ∙ e, no-shadow-row w h n y low up z en cl cu ly s)) (F .at)) A
+  pub ahead-next : (ahead : List ℕ) → last ≡ getD ahead (y + 1) 0 → y < length ahead → AheadFrom h (y + 1) (pixelBits w h (shadow (packed w low) (packed w up))) ahead →
+      AheadFrom h y (pixelBits w h (shadow (packed w low) (packed w up))) (set ahead y r)
+  ahead-next ahead e l A = ahead-more h y r (pixelBits w h (shadow (packed w low) (packed w up))) ahead ly l
+      (⊎-elim (λ q. inl q) (λ (q, s). inr (q ∙ e, no-shadow-row w h n y low up z en cl cu ly s)) (F .at)) A
 
 -- emptied again -------------------------------------------------------------------------------------------------------------
 
@@ -175,7 +180,8 @@ module _ (w h : ℕ) (ahead l : List ℕ) (z : Sizes w h) (R : Room w h ahead l)
   pub empty-start : Upto (getD ahead 0 0) (λ j. false) l l
   empty-start = record { inner = λ j x. none-before w h j ahead l z R x; outer = λ j x. refl }
 
-  pub empty-more : (y y' : ℕ) (x : ℕ → Bool) (mid now : List ℕ) → y < h → y < y' → y' ≡ getD ahead (y + 1) 0 → ((c : ℕ) → x c ≡ false) → RowPut (y + 33) x mid now → Upto y (λ j. false) l mid → Upto y' (λ j. false) l now
+  pub empty-more : (y y' : ℕ) (x : ℕ → Bool) (mid now : List ℕ) → y < h → y < y' → y' ≡ getD ahead (y + 1) 0 → ((c : ℕ) → x c ≡ false) → RowPut (y + 33) x mid now → Upto y (λ j. false) l mid →
+      Upto y' (λ j. false) l now
   empty-more y y' x mid now ly lt e X P U =
       upto-row y y' (λ j. false) (λ j. false) l mid now (put-bits (y + 33) x (λ j. false) mid now (λ c a. X c) P) (λ j a b. refl) U (λ j a b. sym (gap-none w h y y' j ahead l z R ly e a b)) lt
 

@@ -1,30 +1,30 @@
 -- Laws of a pair with shadow, in scratch: its rings, what of its support is excused, and scratch afterwards.
-use mathlib.Core.Path.{_≡_, refl, sym, ap, ap₂, subst, _∙_}
+use mathlib.Core.Path.{_≡_, refl, sym, ap, ap₂, _∙_}
 use mathlib.Core.Bool.{Bool, true, false, not, _&&_, _||_}
 use mathlib.Core.List.{List}
-use Prim.Native.Nat.{ℕ, zero, suc, _+_, _-_, _*_, _/_, _%_, _<_, _≤_}
+use Prim.Native.Nat.{ℕ, _+_, _*_, _/_, _%_, _<_}
 use native.Mathlib.Nat.{mul-assoc}
 use native.Mathlib.Omega.{arith}
 use borrow.Author.Tests.{ltb-true}
 use lib.Arith.{digits-div, digits-mod}
 use lib.Dec.{ltb}
 use lib.ListN.{length, getD}
-use Rattle.rules.specs.Images.{Plane, rowBytes}
-use Rattle.rules.specs.Planning.{touch, grown, shadow, seeds, near, reached}
+use Rattle.rules.specs.Images.{rowBytes}
+use Rattle.rules.specs.Planning.{shadow, seeds, reached}
 use Rattle.laws.specs.Tests.{split, clash, and-l, and-r, not-out}
-use Rattle.image.specs.Rows.{packed, Clean, Packs}
+use Rattle.image.specs.Rows.{packed, Packs}
 use Rattle.image.specs.Scratch.{bitOf}
 use Rattle.words.specs.Words.{wordBit}
 use Rattle.planes.specs.PlaneLaws.{pixel-row, row-fits, seen-is, seen-pixel}
-use Rattle.planes.specs.Scratch.{spot, Sizes, Framed, Ready, Drawn, seen}
-use Rattle.waves.specs.Fronts.{Afloat, Waved}
+use Rattle.planes.specs.Scratch.{Sizes, Drawn, seen}
+use Rattle.waves.specs.Fronts.{WavePlanes, Waved}
 use Rattle.waves.specs.Rows.{Aheads, Room}
 use Rattle.rings.specs.ByteLaws.{row-bytes}
 use Rattle.rings.specs.EndLaws.{waved-none, ring-over}
-use Rattle.rings.specs.Landing.{Apart, Rooms, Whole, nearIn}
+use Rattle.rings.specs.NearRings.{Apart, Rooms, Whole, nearIn}
 use Rattle.pair.specs.ExcuseLaws.{ExcusedTo}
 use Rattle.pair.specs.Found.{Empty, Spare, packedBit}
-use Rattle.pair.specs.FoundLaws.{empty-ready, empty-room}
+use Rattle.pair.specs.FoundLaws.{empty-room}
 use Rattle.pair.specs.Pairs.{pairRings, unexcused, pairSupport}
 
 -- what was excused: no bit is new, and the pixels with a ring are gone
@@ -43,7 +43,7 @@ module _ (w h n q : ℕ) (z : Sizes w h) (low up : List ℕ) where
 
   module _ (ahead left seed got ring : List ℕ) (A : Aheads h ahead) (Rl : Room w h ahead left) (Dl : Drawn w h (shadow (packed w low) (packed w up)) left)
       (Ds : Drawn w h (seeds (packed w low) (packed w up)) seed) (E : Empty got) (long : length ring ≡ h * w) where
-    pub hang-afloat : Afloat w h ahead seed left got ring
+    pub hang-afloat : WavePlanes w h ahead seed left got ring
     hang-afloat = record {
       sizes = z;
       aheads = A;
@@ -61,7 +61,8 @@ module _ (w h n q : ℕ) (z : Sizes w h) (low up : List ℕ) where
     pub hang-waved : ((p : ℕ) → p < h * w → getD ring p 0 ≡ 0) → Waved w h 0 (shadow (packed w low) (packed w up)) (seeds (packed w low) (packed w up)) seed left got ring
     hang-waved zeros = waved-none w h z _ _ seed left got ring long zeros (E .none) (Ds .is) (Dl .is)
 
-  pub hang-rings : (got ring : List ℕ) → Whole w h (nearIn w h q (packed w low) (shadow (packed w low) (packed w up))) (seeds (packed w low) (packed w up)) got ring → ring ≡ pairRings w h q (packed w low) (packed w up)
+  pub hang-rings : (got ring : List ℕ) → Whole w h (nearIn w h q (packed w low) (shadow (packed w low) (packed w up))) (seeds (packed w low) (packed w up)) got ring →
+      ring ≡ pairRings w h q (packed w low) (packed w up)
   unfolding pairRings reached nearIn
   hang-rings got ring W = W .rings
 
@@ -69,7 +70,8 @@ module _ (w h n q : ℕ) (z : Sizes w h) (low up : List ℕ) where
   pub ring-hangs : (p : ℕ) → p < h * w → ltb 0 (getD (pairRings w h q (packed w low) (packed w up)) p 0) ≡ true → packed w up p ≡ true
   unfolding pairRings reached shadow
   ring-hangs p lp e =
-      and-l (packed w up p) _ (and-l (shadow (packed w low) (packed w up) p) _ (ring-over w h (h * w) (reached w h q (packed w low) (packed w up)) (seeds (packed w low) (packed w up)) p lp (ltb-true 0 _ e)))
+      and-l (packed w up p) _ (and-l (shadow (packed w low) (packed w up) p) _
+      (ring-over w h (h * w) (reached w h q (packed w low) (packed w up)) (seeds (packed w low) (packed w up)) p lp (ltb-true 0 _ e)))
 
 -- the bit of a pixel
 packed-seen : (w h n p : ℕ) → Sizes w h → (l : List ℕ) → n ≡ rowBytes w → p < h * w → packedBit n l (p / w * rowBytes w * 8 + p % w) ≡ seen w l p
@@ -79,9 +81,11 @@ packed-seen w h n p z l en lp =
     let b = row-bytes w h z in
     let lc8 : p % w < n * 8 = omega arith in
     let e : p / w * rowBytes w * 8 + p % w ≡ p / w * (n * 8) + p % w = rw en (omega (arith, mul-assoc (p / w) (rowBytes w) 8)) in
-    ap (λ (i : ℕ). wordBit l ((i / (n * 8) + 33) * 320 + i % (n * 8))) e ∙ ap₂ (λ (x y : ℕ). wordBit l ((x + 33) * 320 + y)) (digits-div (p / w) lc8) (digits-mod (p / w) lc8) ∙ sym (seen-is w h z l p)
+    ap (λ (i : ℕ). wordBit l ((i / (n * 8) + 33) * 320 + i % (n * 8))) e ∙ ap₂ (λ (x y : ℕ). wordBit l ((x + 33) * 320 + y)) (digits-div (p / w) lc8) (digits-mod (p / w) lc8)
+    ∙ sym (seen-is w h z l p)
 
-pub excused-by : (w h n : ℕ) → Sizes w h → n ≡ rowBytes w → (got ring was now : List ℕ) → ((p : ℕ) → p < h * w → seen w got p ≡ ltb 0 (getD ring p 0)) → ExcusedTo n h got was now → Excused w h ring was now
+pub excused-by : (w h n : ℕ) → Sizes w h → n ≡ rowBytes w → (got ring was now : List ℕ) → ((p : ℕ) → p < h * w → seen w got p ≡ ltb 0 (getD ring p 0)) → ExcusedTo n h got was now →
+    Excused w h ring was now
 unfolding packed
 excused-by w h n z en got ring was now gots E = record {
   fewer = λ j l u. and-l (bitOf was j) _ (sym (E .inner j (rw en l)) ∙ u);
@@ -120,7 +124,8 @@ module _ (w h q : ℕ) (z : Sizes w h) (low up above out out' ring : List ℕ) (
       turn false false false false x y = refl
 
 -- a pair without shadow: nothing is excused
-pub calm-packs : (w h q : ℕ) (low up above out : List ℕ) → ((p : ℕ) → p < h * w → shadow (packed w low) (packed w up) p ≡ false) → Packs w h (λ p. (packed w up p || packed w above p) && not (packed w low p)) out
+pub calm-packs : (w h q : ℕ) (low up above out : List ℕ) → ((p : ℕ) → p < h * w → shadow (packed w low) (packed w up) p ≡ false) →
+    Packs w h (λ p. (packed w up p || packed w above p) && not (packed w low p)) out
     → Packs w h (pairSupport w h q (packed w low) (packed w up) (packed w above)) out
 unfolding pairSupport unexcused shadow
 calm-packs w h q low up above out none P = record {
@@ -133,7 +138,8 @@ calm-packs w h q low up above out none P = record {
     turn true a false r e = clash refl e
     turn false a l r e = refl
 
-pub spare-rooms : (w h : ℕ) (ahead ahead' left left' got front next seed seed' lower : List ℕ) → Spare w h left got front next seed lower ahead → Room w h ahead' left' → Rooms w h ahead' left' got front next lower
+pub spare-rooms : (w h : ℕ) (ahead ahead' left left' got front next seed seed' lower : List ℕ) → Spare w h left got front next seed lower ahead → Room w h ahead' left' →
+    Rooms w h ahead' left' got front next lower
 spare-rooms w h ahead ahead' left left' got front next seed seed' lower S R = record {
   left-room = R;
   got-room = empty-room w h ahead' got (S .got-empty);

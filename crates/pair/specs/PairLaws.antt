@@ -1,22 +1,22 @@
 -- Laws of one pair of layers.
-use mathlib.Core.Path.{_≡_, refl, sym, ap, ap₂, subst, _∙_}
-use mathlib.Core.List.{List, [], _∷_, _++_}
-use mathlib.Core.Bool.{Bool, true, false, not, _&&_, _||_}
-use mathlib.Core.Logic.{_⊎_, inl, inr}
+use mathlib.Core.Path.{_≡_, refl, sym, ap, ap₂, _∙_}
+use mathlib.Core.List.{List}
+use mathlib.Core.Bool.{Bool, false, not, _&&_, _||_}
+use mathlib.Core.Logic.{inl}
 use Prim.Native.Nat.{ℕ, _+_, _-_, _*_, _/_, _%_, _≤_, _<_}
 use native.Mathlib.Nat.{mod-lt, div-lt-iff-lt-mul, mul-le-mul}
 use native.Mathlib.Decide.{decLt}
 use native.Mathlib.Omega.{arith}
 use borrow.Author.Tests.{eqb-true, not-false}
 use lib.Bits.{bitAnd, bitOr}
-use lib.Dec.{leb, ltb, eqb}
+use lib.Dec.{leb, eqb}
 use lib.ListN.{length, getD, take, length-take, replicate, length-replicate, getD-replicate, List·getD-eq-default}
 use lib.Seq.{getD-take, length-take-le}
 use Rattle.rules.specs.Images.{Plane, bitAt, rowBytes}
-use Rattle.rules.specs.Planning.{touch, grown, shadow, seeds, near, reached}
+use Rattle.rules.specs.Planning.{touch, shadow, seeds, near, reached}
 use Rattle.rules.specs.Reach.{distance²}
 use Rattle.laws.specs.Growing.{grown-same, grown-none}
-use Rattle.laws.specs.Tests.{bool-eq, clash, and-l, and-r, and-in, not-out, some-in, some-out}
+use Rattle.laws.specs.Tests.{bool-eq, and-l, and-r, and-in, some-in, some-out}
 use Rattle.image.specs.Bits.{bit-and, bit-or, bit-not, zero-bit, byte-but-not}
 use Rattle.image.specs.Filling.{bit-here}
 use Rattle.image.specs.Loops.{Bits, butNot}

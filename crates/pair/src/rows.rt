@@ -1,10 +1,12 @@
 // The rows of a pair: found before its rings grow, and emptied afterwards.
+use words::Row;
 ghost use mathlib.Core.Path.{_≡_};
 ghost use Prim.Native.Nat.{ℕ, _+_, _*_, _<_, _≤_};
 ghost use lib.ListN.{length};
 ghost use Rattle.rules.specs.Images.{rowBytes};
 ghost use Rattle.rules.specs.Planning.{seeds, shadow};
 ghost use Rattle.image.specs.Rows.{packed, Clean};
+ghost use Rattle.words.specs.Words.{column};
 ghost use Rattle.planes.specs.Scratch.{Drawn, Ready, Sizes};
 ghost use Rattle.waves.specs.Rows.{Aheads, Room};
 ghost use Rattle.pair.specs.ExcuseLaws.{ExcusedTo, Taken};
@@ -87,20 +89,13 @@ pub fn empty(
     }
 }
 
-// Takes the bits of the words from i on off the n bytes from `at` on.
-fn excuse_row(out: &mut [u8], got: &[u64], at: usize, i: usize, n: usize)
-    requires { ⌜ (n ≤ 32) × (at + n ≤ length (now out)) × (i + 5 ≤ length (now got)) ⌝ }
-    ensures { λ _. ⌜ Taken at (at + n) i (now (got .entry)) (now (out .entry)) (now (out .exit)) ⌝ }
+// Takes the pixels of x off the row of n bytes from `at` on.
+fn excuse_row(out: &mut [u8], at: usize, n: usize, x: Row)
+    requires { ⌜ (n ≤ 32) × (at + n ≤ length (now out)) ⌝ }
+    ensures { λ _. ⌜ Taken at n (column x) (now (out .entry)) (now (out .exit)) ⌝ }
 {
-    let full = n / 8;
-    let mut q = 0;
-    while q < full {
-        let x = words::bytes::word(out, at + q * 8) & !got[i + q];
-        words::bytes::put(out, at + q * 8, 8, x);
-        q += 1;
-    }
-    let x = words::bytes::part(out, at + q * 8, n % 8) & !got[i + q];
-    words::bytes::put(out, at + q * 8, n % 8, x);
+    let row = words::rows::read(out, at, n);
+    words::rows::write(out, at, n, words::rows::but_not(row, x));
 }
 
 // Takes the excused pixels off the support of a layer, in the rows that `ahead` leads to.
@@ -112,8 +107,9 @@ pub fn excuse(out: &mut [u8], got: &[u64], ahead: &[usize], w: usize, h: usize, 
     while y < h {
         let r = y;
         y = ahead[r + 1];
-        if words::rows::any(planes::rows::row(got, r + 33)) {
-            excuse_row(out, got, r * n, (r + 33) * 5, n);
+        let x = planes::rows::row(got, r + 33);
+        if words::rows::any(x) {
+            excuse_row(out, r * n, n, x);
         }
     }
 }

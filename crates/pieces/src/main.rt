@@ -1,4 +1,4 @@
-// Runs every bench piece of document 01 through the public calls, and then the ends of its limits. A planned piece shows its number, its
+// Runs every bench piece of docs/RULES.md through the public calls, and then the ends of the limits. A planned piece shows its number, its
 // support in hexadecimal and its rings; a checked one its number and place.
 use judge::judge;
 use libc::STDOUT_FILENO;

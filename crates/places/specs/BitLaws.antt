@@ -1,13 +1,12 @@
 -- What operations on bytes do to the eight pixels of each.
-use mathlib.Core.Path.{_≡_, refl, ap, ap₂, _∙_}
-use mathlib.Core.Bool.{Bool, true, false, not, _&&_, _||_}
+use mathlib.Core.Path.{_≡_, refl, ap, _∙_}
+use mathlib.Core.Bool.{Bool, true, false, _&&_}
 use mathlib.Core.List.{List}
-use Prim.Native.Nat.{ℕ, _+_, _-_, _/_, _%_, _<_}
+use Prim.Native.Nat.{ℕ, _+_, _/_, _%_, _<_}
 use native.Mathlib.Omega.{arith}
-use lib.Bits.{bitAnd, bitOr, or-lt}
 use lib.ListN.{getD}
 use Rattle.rules.specs.Images.{bitAt}
-use Rattle.image.specs.Bits.{bit-and, bit-or, bit-not, zero-bit}
+use Rattle.image.specs.Bits.{zero-bit}
 use Rattle.places.specs.Search.{bitIn}
 
 pub no-bit : (m k : ℕ) → m ≡ 0 → bitAt m k ≡ false

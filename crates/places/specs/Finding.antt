@@ -8,12 +8,12 @@ use borrow.Author.Tests.{ltb-true, ltb-false}
 use Rattle.rules.specs.Tools.{nothing, found, first, some}
 use Rattle.laws.specs.Tests.{split, clash, some-out}
 use Rattle.laws.specs.Places.{none-is, one-is, first-is, first-unique}
-use Rattle.places.specs.Search.{Least}
+use Rattle.places.specs.Search.{FirstOf}
 
-pub least-none : (a n : ℕ) (f : ℕ → Bool) → a ≤ n → ((y : ℕ) → a ≤ y → y < n → f y ≡ false) → Least a n f n
+pub least-none : (a n : ℕ) (f : ℕ → Bool) → a ≤ n → ((y : ℕ) → a ≤ y → y < n → f y ≡ false) → FirstOf a n f n
 least-none a n f l all = record { low = l; bound = omega arith; before = all; at = λ h. absurd (omega arith) }
 
-pub least-one : (a n : ℕ) (f : ℕ → Bool) (k : ℕ) → a ≤ k → k < n → ((y : ℕ) → a ≤ y → y < k → f y ≡ false) → f k ≡ true → Least a n f k
+pub least-one : (a n : ℕ) (f : ℕ → Bool) (k : ℕ) → a ≤ k → k < n → ((y : ℕ) → a ≤ y → y < k → f y ≡ false) → f k ≡ true → FirstOf a n f k
 least-one a n f k l h all t = record { low = l; bound = omega arith; before = all; at = λ _. t }
 
 -- one more that fails
@@ -22,7 +22,7 @@ fails-more a f k all e y l h = split (ltb y k) (λ t. all y l (ltb-true y k t)) 
 
 -- all below x fail, and the n from x on are looked at as g
 module _ (m : ℕ) (f g : ℕ → Bool) (x n k : ℕ) (before : (y : ℕ) → y < x → y < m → f y ≡ false)
-    (same : (j : ℕ) → j < n → f (x + j) ≡ g j) (r : Least 0 n g k) where
+    (same : (j : ℕ) → j < n → f (x + j) ≡ g j) (r : FirstOf 0 n g k) where
   passed : (y : ℕ) → y < x + k → y < m → k ≤ n → f y ≡ false
   passed y h b l =
       split (ltb y x) (λ t. before y (ltb-true y x t) b) (λ t.
@@ -31,40 +31,26 @@ module _ (m : ℕ) (f g : ℕ → Bool) (x n k : ℕ) (before : (y : ℕ) → y 
       let e : f (x + (y - x)) ≡ false = same (y - x) (omega arith) ∙ r .before (y - x) (omega arith) j in
       rw z at e)
 
-  pub stretch-hit : x + n ≤ m → k < n → Least 0 m f (x + k)
+  pub stretch-hit : x + n ≤ m → k < n → FirstOf 0 m f (x + k)
   stretch-hit l h =
       record { low = omega arith; bound = omega arith; before = λ y a b. passed y b (omega arith) (omega arith); at = λ _. same k h ∙ r .at h }
-
-  pub stretch-last : x + n ≡ m → Least 0 m f (x + k)
-  stretch-last e =
-      let b : k ≤ n = r .bound in
-      record { low = omega arith; bound = omega arith; before = λ y a l. passed y l (omega arith) b; at = λ l. same k (omega arith) ∙ r .at (omega arith) }
 
   pub stretch-more : (x' : ℕ) → n ≤ k → ((y : ℕ) → y < x' → y < m → y < x + n) → (y : ℕ) → y < x' → y < m → f y ≡ false
   stretch-more x' h cover y a b = passed y (omega (arith, cover y a b)) b (r .bound)
 
 -- the search's answer is the definition's
-pub least-found : (n : ℕ) (f : ℕ → Bool) (r : ℕ) → Least 0 n f r → r < n → first 0 n f ≡ found r
+pub least-found : (n : ℕ) (f : ℕ → Bool) (r : ℕ) → FirstOf 0 n f r → r < n → first 0 n f ≡ found r
 least-found n f r s l =
     first-unique 0 n f (first 0 n f) (found r) (first-is 0 n f) (one-is {x = r} (omega arith) (omega arith) (s .at l) (s .before))
 
-pub least-nothing : (n : ℕ) (f : ℕ → Bool) (r : ℕ) → Least 0 n f r → n ≤ r → first 0 n f ≡ nothing
+pub least-nothing : (n : ℕ) (f : ℕ → Bool) (r : ℕ) → FirstOf 0 n f r → n ≤ r → first 0 n f ≡ nothing
 least-nothing n f r s l =
     first-unique 0 n f (first 0 n f) nothing (first-is 0 n f) (none-is (λ y a b. s .before y a (omega arith)))
 
 -- all before a fail, and the search goes on from a: found, at the end, and further
-module _ (a e : ℕ) (f : ℕ → Bool) (k : ℕ) (before : (y : ℕ) → 0 ≤ y → y < a → f y ≡ false) (r : Least a e f k) where
+module _ (a e : ℕ) (f : ℕ → Bool) (k : ℕ) (before : (y : ℕ) → 0 ≤ y → y < a → f y ≡ false) (r : FirstOf a e f k) where
   onward : (y : ℕ) → 0 ≤ y → y < k → f y ≡ false
   onward y z l = split (ltb y a) (λ t. before y z (ltb-true y a t)) (λ t. r .before y (ltb-false y a t) l)
-
-  pub onward-hit : (m : ℕ) → e ≤ m → k < e → Least 0 m f k
-  onward-hit m l h = record { low = omega arith; bound = omega arith; before = onward; at = λ _. r .at h }
-
-  pub onward-end : Least 0 e f k
-  onward-end = record { low = omega arith; bound = r .bound; before = onward; at = r .at }
-
-  pub onward-more : e ≤ k → (y : ℕ) → 0 ≤ y → y < e → f y ≡ false
-  onward-more h y z l = onward y z (omega arith)
 
 pub some-none : (n : ℕ) (f : ℕ → Bool) → ((x : ℕ) → x < n → f x ≡ false) → some n f ≡ false
 some-none n f h = split (some n f) (λ t. let (x, l, e) = some-out n f t in clash e (h x l)) (λ e. e)

@@ -2,21 +2,19 @@
 use mathlib.Core.Path.{_≡_, refl, sym, ap₂, _∙_}
 use mathlib.Core.Bool.{Bool, false, _&&_}
 use mathlib.Core.List.{List}
-use Prim.Native.Nat.{ℕ, zero, suc, _+_, _-_, _*_, _/_, _%_, _<_, _≤_}
+use Prim.Native.Nat.{ℕ, _+_, _-_, _*_, _/_, _%_, _<_, _≤_}
 use native.Mathlib.Nat.{mul-assoc, mul-le-mul}
 use native.Mathlib.Omega.{arith}
 use lib.Arith.{digits-lt}
 use lib.Bits.{bitAnd, bitOr, or-add-and, and-le-l, and-le-r}
-use lib.Dec.{eqb}
-use lib.ListN.{getD, length, set}
+use lib.ListN.{getD, length}
 use borrow.Author.Count.{below-more}
 use Rattle.rules.specs.Images.{rowBytes, bitAt}
 use Rattle.laws.specs.Places.{digits-in}
-use Rattle.places.specs.Search.{Least, bitIn, overlapHere, overlapIn, Sized}
+use Rattle.places.specs.Search.{FirstOf, overlapHere, overlapIn, Sized}
 use Rattle.places.specs.BitLaws.{byte-in, no-bit}
 use Rattle.places.specs.Finding.{least-none}
-use Rattle.image.specs.Bits.{bit-and, stored-more, or-none}
-use Rattle.image.specs.Scratch.{bitOf}
+use Rattle.image.specs.Bits.{bit-and}
 use Rattle.image.specs.Rows.{packed}
 use Rattle.image.specs.Packed.{row-bit}
 use Rattle.places.specs.Planes.{row-in, cut, cut-length}
@@ -44,20 +42,15 @@ unfolding rowBytes
 byte-of w h n p e l = let (lr, lc) = digits-in p h w l in rw e (digits-lt lr (omega arith))
 
 pub apart-none : (part sup : List ℕ) (w h n : ℕ) → n ≡ h * rowBytes w →
-    ((j : ℕ) → j < n → (k : ℕ) → k < 8 → (bitAt (getD sup j 0) k && bitAt (getD part j 0) k) ≡ false) → Least 0 (h * w) (overlapHere (packed w part) (packed w sup)) (h * w)
+    ((j : ℕ) → j < n → (k : ℕ) → k < 8 → (bitAt (getD sup j 0) k && bitAt (getD part j 0) k) ≡ false) → FirstOf 0 (h * w) (overlapHere (packed w part) (packed w sup)) (h * w)
 unfolding overlapHere packed
 apart-none part sup w h n e all =
     least-none 0 (h * w) _ (omega arith) (λ p a l.
     rw (row-bit sup (p / w * rowBytes w) (p % w), row-bit part (p / w * rowBytes w) (p % w)) (all (p / w * rowBytes w + p % w / 8) (byte-of w h n p e l) (p % w % 8) (omega arith)))
 
--- the byte of a column lies in its row
-pub byte-room : (w c at b len : ℕ) → c < w → b ≡ at + c / 8 → at + rowBytes w ≤ len → b < len
-unfolding rowBytes
-byte-room w c at b len l e h = omega arith
-
 -- Row by row and plane by plane -------------------------------------------------------------------------------------------
 
-pub least-end : (m : ℕ) (f : ℕ → Bool) (x : ℕ) → x ≡ m → ((y : ℕ) → y < x → y < m → f y ≡ false) → Least 0 m f x
+pub least-end : (m : ℕ) (f : ℕ → Bool) (x : ℕ) → x ≡ m → ((y : ℕ) → y < x → y < m → f y ≡ false) → FirstOf 0 m f x
 least-end m f x e all = record { low = omega arith; bound = omega arith; before = λ y a b. all y b (omega arith); at = λ l. absurd (omega arith) }
 
 -- row (or plane) i of k, each of u: it ends inside, and the last ends where all do
@@ -119,7 +112,3 @@ module _ (w h n i at bytes x : ℕ) (eb : bytes ≡ h * rowBytes w) (ea : at ≡
 
 pub fit-of : (a b m n : ℕ) → a ≤ m → b ≤ n → a * b ≤ m * n
 fit-of a b m n l k = mul-le-mul l k
-
--- the lower plane of a pair is one of the stack
-pub pair-low : (n i : ℕ) → i < n - 1 → i < n
-pair-low n i l = omega arith

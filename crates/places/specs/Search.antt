@@ -1,18 +1,16 @@
 -- What a search answers, and what it looks at: the rows and planes of a stack as bytes.
 use mathlib.Core.Path.{_≡_}
 use mathlib.Core.Bool.{Bool, true, false, not, _&&_, _||_}
-use mathlib.Core.List.{List, [], _∷_}
+use mathlib.Core.List.{List}
 use Prim.Native.Nat.{ℕ, _+_, _-_, _*_, _/_, _%_, _≤_, _<_}
 use lib.Dec.{ltb, eqb}
 use lib.ListN.{getD}
-use Rattle.rules.specs.Tools.{Case, _when_}
-use Rattle.rules.specs.Images.{Plane, Stack, bitAt, rowsOf, paddingSet}
-use Rattle.rules.specs.declared.Settings.{Settings}
+use Rattle.rules.specs.Images.{Plane, Stack, bitAt}
 use Rattle.image.specs.Rows.{packed}
-use Rattle.rules.specs.Planning.{shadow, near, seeds, reached, touch, source, touching, fits}
+use Rattle.rules.specs.Planning.{seeds, reached, touch, source, fits}
 
 -- r is the first of a, a + 1, .., n - 1 that passes; n where none does
-pub record Least (a n : ℕ) (f : ℕ → Bool) (r : ℕ) : Type 0 where
+pub record FirstOf (a n : ℕ) (f : ℕ → Bool) (r : ℕ) : Type 0 where
   pub low : a ≤ r
   pub bound : r ≤ n
   pub before : (y : ℕ) → a ≤ y → y < r → f y ≡ false
@@ -50,10 +48,3 @@ pub record Sized (w h : ℕ) : Type 0 where
   pub w-high : w ≤ 256
   pub h-low : 1 ≤ h
   pub h-high : h ≤ 256
-
--- the refusals 7 and 8 of the checker's table
-unfoldable pub padCases : Settings → List ℕ → List ℕ → List Case
-padCases s part support =
-    (7 when paddingSet (s .w) (rowsOf s) part)
-    ∷ (8 when paddingSet (s .w) (rowsOf s) support)
-    ∷ []

@@ -3,20 +3,7 @@ ghost use mathlib.Core.Path.{_≡_};
 ghost use Prim.Native.Nat.{_+_, _-_, _/_, _<_, _≤_, min};
 ghost use lib.ListN.{length};
 ghost use Rattle.rules.specs.Images.{bitAt};
-ghost use Rattle.places.specs.Search.{Least, bitIn};
-
-pub fn smaller(a: usize, b: usize) -> usize
-    ensures { λ d. ⌜ d ≡ min a b ⌝ }
-{
-    if a < b { a } else { b }
-}
-
-// a less b, or 0
-pub fn less(a: usize, b: usize) -> usize
-    ensures { λ d. ⌜ d ≡ a - b ⌝ }
-{
-    if b < a { a - b } else { 0 }
-}
+ghost use Rattle.places.specs.Search.{FirstOf, bitIn};
 
 pub fn bit(m: u8, k: usize) -> bool
     requires { ⌜ k < 8 ⌝ }
@@ -28,7 +15,7 @@ pub fn bit(m: u8, k: usize) -> bool
 // The first bit that is set, from column `from` on and before `to`; or `to`.
 pub fn bit_from(m: u8, from: usize, to: usize) -> usize
     requires { ⌜ (from ≤ to) × (to ≤ 8) ⌝ }
-    ensures { λ r. ⌜ Least from to (λ k. bitAt m k) r ⌝ }
+    ensures { λ r. ⌜ FirstOf from to (λ k. bitAt m k) r ⌝ }
 {
     if m == 0 {
         return to;

@@ -6,7 +6,7 @@ ghost use lib.ListN.{length, getD};
 ghost use Rattle.rules.specs.Images.{rowBytes, bitAt, pixel};
 ghost use Rattle.rules.specs.Judging.{overlap};
 ghost use Rattle.image.specs.Rows.{packed};
-ghost use Rattle.places.specs.Search.{Least, flat, overlapHere, overlapIn, Sized};
+ghost use Rattle.places.specs.Search.{FirstOf, flat, overlapHere, overlapIn, Sized};
 
 // Whether no pixel is in both, by whole bytes.
 fn apart(part: &[u8], sup: &[u8], n: usize) -> bool
@@ -24,12 +24,12 @@ fn apart(part: &[u8], sup: &[u8], n: usize) -> bool
 
 fn overlap_row(part: &[u8], sup: &[u8], at: usize, w: usize) -> usize
     requires { ⌜ (w ≤ 256) × ((at + rowBytes w ≤ length (now part)) × (at + rowBytes w ≤ length (now sup))) ⌝ }
-    ensures { λ r. ⌜ Least 0 w (overlapIn (now (part .entry)) (now (sup .entry)) at) r ⌝ }
+    ensures { λ r. ⌜ FirstOf 0 w (overlapIn (now (part .entry)) (now (sup .entry)) at) r ⌝ }
 {
     let mut c = 0;
     let mut b = at;
     while c < w {
-        let end = crate::bits::smaller(w - c, 8);
+        let end = numbers::lesser(w - c, 8);
         let k = crate::bits::bit_from(sup[b] & part[b], 0, end);
         if k < end {
             return c + k;
@@ -43,7 +43,7 @@ fn overlap_row(part: &[u8], sup: &[u8], at: usize, w: usize) -> usize
 // The first pixel of a plane that is in both. A plane without one is passed over by whole bytes.
 fn overlap_plane(part: &[u8], sup: &[u8], w: usize, h: usize) -> usize
     requires { ⌜ Sized w h × ((length (now part) ≡ h * rowBytes w) × (length (now sup) ≡ h * rowBytes w)) ⌝ }
-    ensures { λ r. ⌜ Least 0 (h * w) (overlapHere (packed w (now (part .entry))) (packed w (now (sup .entry)))) r ⌝ }
+    ensures { λ r. ⌜ FirstOf 0 (h * w) (overlapHere (packed w (now (part .entry))) (packed w (now (sup .entry)))) r ⌝ }
 {
     let rb = limits::row_bytes(w);
     if apart(part, sup, h * rb) {
@@ -67,7 +67,7 @@ fn overlap_plane(part: &[u8], sup: &[u8], w: usize, h: usize) -> usize
 // The first pixel of the stack that is in both.
 pub fn overlap_at(part: &[u8], sup: &[u8], w: usize, h: usize, n: usize) -> usize
     requires { ⌜ (Sized w h × (n ≤ 512)) × ((length (now part) ≡ n * h * rowBytes w) × (length (now sup) ≡ n * h * rowBytes w)) ⌝ }
-    ensures { λ r. ⌜ Least 0 (n * (h * w)) (flat w h (overlap (pixel w h (now (part .entry))) (pixel w h (now (sup .entry))))) r ⌝ }
+    ensures { λ r. ⌜ FirstOf 0 (n * (h * w)) (flat w h (overlap (pixel w h (now (part .entry))) (pixel w h (now (sup .entry))))) r ⌝ }
 {
     let bytes = h * limits::row_bytes(w);
     let area = h * w;

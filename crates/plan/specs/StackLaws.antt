@@ -11,7 +11,7 @@ use borrow.Rule.Slice.PartMut.{midOf, putMid}
 use lib.Dec.{ltb, eqb}
 use lib.ListN.{length, getD, set, take, drop, List·getD-eq-default, replicate, length-replicate}
 use lib.Seq.{ext-getD, getD-drop, getD-set-same, getD-set-other}
-use Rattle.rules.specs.Images.{paddingSet, Plane, Stack, rowBytes, pixel, bytesOf, ringAt}
+use Rattle.rules.specs.Images.{paddingSet, Stack, rowBytes, pixel, bytesOf, ringAt}
 use Rattle.rules.specs.Planning.{shadow, ringPlane, rings, excused, planned, supportUnder, topOf, empty, plannedRings, plannedBytes}
 use Rattle.rules.specs.Tools.{joinedUp}
 use Rattle.laws.specs.Growing.{length-grown}
@@ -138,7 +138,8 @@ module _ (w h n q : ℕ) (lw : 0 < w) (part : List ℕ) (long : length part ≡ 
       let A : Packs w h (plannedStack w h n q part (n - 1)) above = packs-same w h lw (λ p. false) (plannedStack w h n q part (n - 1)) above (λ p lp. sym (support-top w h n q part p ln)) a in
       record {
         support-done = from-more size (n - 1) support' support (plannedBytes w h n (λ k. q) part) o
-            (from-end ((n - 1 + 1) * size) support (plannedBytes w h n (λ k. q) part) (omega (arith, top, mul-assoc n h (rowBytes w))) (omega (arith, top, length-bytes w h n q part, mul-assoc n h (rowBytes w))))
+            (from-end ((n - 1 + 1) * size) support (plannedBytes w h n (λ k. q) part) (omega (arith, top, mul-assoc n h (rowBytes w)))
+            (omega (arith, top, length-bytes w h n q part, mul-assoc n h (rowBytes w))))
             (e ∙ planned-plane (n - 1) above (omega arith) small A);
         rings-done = from-end ((n - 1) * (h * w)) rings (plannedRings w h n (λ k. q) part) (omega arith) (omega (arith, length-rings w h n q part));
         above-is = A;
@@ -152,7 +153,8 @@ module _ (w h n q : ℕ) (lw : 0 < w) (part : List ℕ) (long : length part ≡ 
     layer-support : (p : ℕ) → p < h * w
         → pairSupport w h q (packed w (plane (h * rowBytes w) i part)) (packed w (plane (h * rowBytes w) (suc i) part)) (packed w above) p ≡ plannedStack w h n q part i p
     layer-support p lp =
-        support-same w h q (packed w (plane (h * rowBytes w) i part)) (pixel w h part i) (packed w (plane (h * rowBytes w) (suc i) part)) (pixel w h part (suc i)) (layer-pixel i) (layer-pixel (suc i)) (packed w above) (plannedStack w h n q part (suc i))
+        support-same w h q (packed w (plane (h * rowBytes w) i part)) (pixel w h part i) (packed w (plane (h * rowBytes w) (suc i) part)) (pixel w h part (suc i)) (layer-pixel i)
+        (layer-pixel (suc i)) (packed w above) (plannedStack w h n q part (suc i))
         (λ o lo. D .above-is .pixels o lo ∙ ap (λ (x : ℕ). plannedStack w h n q part x o) (add-one i)) p lp
         ∙ sym (support-step w h n q part i p li lp)
 
@@ -167,7 +169,8 @@ module _ (w h n q : ℕ) (lw : 0 < w) (part : List ℕ) (long : length part ≡ 
         record {
           support-done = from-more (h * rowBytes w) i support' support (plannedBytes w h n (λ k. q) part) os (D .support-done) (es ∙ planned-plane i above' (omega arith) small A);
           rings-done = from-more (h * w) i rings' rings (plannedRings w h n (λ k. q) part) or (D .rings-done)
-              (er ∙ rings-same w h q (packed w (plane (h * rowBytes w) i part)) (pixel w h part i) (packed w (plane (h * rowBytes w) (suc i) part)) (pixel w h part (suc i)) (layer-pixel i) (layer-pixel (suc i)) ∙ sym (rings-plane w h n q part i li));
+              (er ∙ rings-same w h q (packed w (plane (h * rowBytes w) i part)) (pixel w h part i) (packed w (plane (h * rowBytes w) (suc i) part)) (pixel w h part (suc i)) (layer-pixel i)
+              (layer-pixel (suc i)) ∙ sym (rings-plane w h n q part i li));
           above-is = A;
         }
 
@@ -217,7 +220,8 @@ module _ (w h n size i : ℕ) (part : List ℕ) (es : size ≡ h * rowBytes w) (
   lent-up = subst (Clean w h) (sym (up-plane size i part ∙ ap (λ (x : ℕ). plane x (suc i) part) es)) (plane-clean w h n part long pad (suc i) li)
 
 -- the support of the layer above has none of its pixels
-pub above-apart : (w h n q size i : ℕ) → 0 < w → (part support rings above : List ℕ) → size ≡ h * rowBytes w → length part ≡ n * h * rowBytes w → suc i < n → Down w h n q (i + 1) part support rings above
+pub above-apart : (w h n q size i : ℕ) → 0 < w → (part support rings above : List ℕ) → size ≡ h * rowBytes w → length part ≡ n * h * rowBytes w → suc i < n →
+    Down w h n q (i + 1) part support rings above
     → (p : ℕ) → p < h * w → packed w above p ≡ true → packed w (cutUp size i part) p ≡ true → ⊥
 above-apart w h n q size i lw part support rings above es long li D p lp a u =
     let e : cutUp size i part ≡ plane (h * rowBytes w) (suc i) part = up-plane size i part ∙ ap (λ (x : ℕ). plane x (suc i) part) es in
@@ -255,7 +259,8 @@ module _ (w h n q : ℕ) (lw : 0 < w) (part : List ℕ) (long : length part ≡ 
       (put-only size i support above' room ly) (put-only area i rings rs roomr lr')
       (put-plane size i support above' room ly)
       (put-plane area i rings rs roomr lr'
-      ∙ subst (λ (x : List ℕ). rs ≡ pairRings w h q (packed w x) (packed w (plane size (suc i) part))) el (subst (λ (y : List ℕ). rs ≡ pairRings w h q (packed w (cutLow size i part)) (packed w y)) eu er))
+      ∙ subst (λ (x : List ℕ). rs ≡ pairRings w h q (packed w x) (packed w (plane size (suc i) part))) el
+      (subst (λ (y : List ℕ). rs ≡ pairRings w h q (packed w (cutLow size i part)) (packed w y)) eu er))
       small
       (subst (λ (x : List ℕ). Packs w h (pairSupport w h q (packed w x) (packed w (plane size (suc i) part)) (packed w above)) above') el
       (subst (λ (y : List ℕ). Packs w h (pairSupport w h q (packed w (cutLow size i part)) (packed w y) (packed w above)) above') eu a))

@@ -1,21 +1,20 @@
 -- Laws of near by rows: one row of the disc further, and what it comes to at the last one.
-use mathlib.Core.Path.{_≡_, refl, sym, ap, ap₂, subst, _∙_}
-use mathlib.Core.Bool.{Bool, true, false, _&&_, _||_}
+use mathlib.Core.Path.{_≡_, sym, ap, ap₂, subst, _∙_}
+use mathlib.Core.Bool.{Bool, true, _||_}
 use mathlib.Core.List.{List}
-use mathlib.Core.Logic.{_⊎_, inl, inr, ⊎-elim}
-use Prim.Native.Nat.{ℕ, suc, _+_, _-_, _*_, _/_, _%_, _<_, _≤_}
+use mathlib.Core.Logic.{⊎-elim}
+use Prim.Native.Nat.{ℕ, suc, _+_, _-_, _*_, _<_, _≤_}
 use native.Mathlib.Nat.{mul-le-mul}
 use native.Mathlib.Omega.{arith}
-use native.Mathlib.Decide.{decLt, decLe, ℕ-discrete}
-use Rattle.rules.specs.Images.{Plane}
+use native.Mathlib.Decide.{decLt, decLe}
 use Rattle.rules.specs.Planning.{near}
 use Rattle.rules.specs.Reach.{apart, halfWidth, root, square}
 use lib.ListN.{getD}
-use Rattle.laws.specs.Discs.{Halves, HalfWidth, half-width, half-small, root-is, root-low, root-most, root-small}
+use Rattle.laws.specs.Discs.{Halves, half-width, half-small, root-is, root-low, root-most}
 use Rattle.laws.specs.Neighbours.{near-is}
 use Rattle.laws.specs.Tests.{bool-eq, or-l, or-r, or-out}
 use Rattle.words.specs.Words.{wordBit, Widened}
-use Rattle.planes.specs.Scratch.{spot, Sizes, Pixel, Framed, seen, rowBit}
+use Rattle.planes.specs.Scratch.{Sizes, Framed, seen, rowBit}
 use Rattle.planes.specs.Nearness.{Reaching, NearTo}
 use Rattle.planes.specs.PlaneLaws.{seen-at, row-bit}
 use Rattle.planes.specs.TouchLaws.{row-out}
@@ -108,7 +107,8 @@ module _ (q k d : ℕ) (low : List ℕ) (f g u v b t : ℕ → Bool) (pd : 0 < d
       | no y ↦
           let e : ℕ = apart k (R .row) in
           let le : halfWidth q (d - 1) ≤ halfWidth q (apart k (R .row)) = half-mono q (d - 1) (apart k (R .row)) (before-in q d lq) (omega arith) in
-          let (y', ly, a, b', x') = between c (R .column) (halfWidth q (apart k (R .row)) - halfWidth q (d - 1)) (halfWidth q (d - 1) - halfWidth q d) lc (R .in-row) (omega (arith, R .within, nm)) in
+          let (y', ly, a, b', x') = between c (R .column) (halfWidth q (apart k (R .row)) - halfWidth q (d - 1)) (halfWidth q (d - 1) - halfWidth q d) lc (R .in-row)
+          (omega (arith, R .within, nm)) in
           or-l (g c) _ (W .there c y' lc
           (N .there y' ly (record { row = R .row; column = R .column; in-row = R .in-row; on = R .on; down = omega arith; up = omega arith; within = omega arith })) a b')
     ]
@@ -116,7 +116,8 @@ module _ (q k d : ℕ) (low : List ℕ) (f g u v b t : ℕ → Bool) (pd : 0 < d
 
   near-back : (c : ℕ) → t c ≡ true → (c < 256) × Reaching q k d (halfWidth q d) low c
   unfolding apart
-  near-back c e = ⊎-elim from-wide (λ x. ⊎-elim (λ y. from-row (k - d) (omega arith) (row-out low (k - d) c (sym (U c) ∙ y))) (λ y. from-row (k + d) (omega arith) (row-out low (k + d) c (sym (Vv c) ∙ y))) (or-out (u c) (v c) (sym (B c) ∙ x)))
+  near-back c e = ⊎-elim from-wide (λ x. ⊎-elim (λ y. from-row (k - d) (omega arith) (row-out low (k - d) c (sym (U c) ∙ y)))
+      (λ y. from-row (k + d) (omega arith) (row-out low (k + d) c (sym (Vv c) ∙ y))) (or-out (u c) (v c) (sym (B c) ∙ x)))
       (or-out (g c) (b c) (sym (T c) ∙ e))
     where
       from-wide : g c ≡ true → (c < 256) × Reaching q k d (halfWidth q d) low c

@@ -1,32 +1,27 @@
 -- Laws of planes in scratch: where a pixel's bit stands, and rows of a plane read and put.
-use mathlib.Core.Path.{_≡_, refl, sym, ap, ap₂, subst, _∙_}
+use mathlib.Core.Path.{_≡_, refl, sym, ap, ap₂, _∙_}
 use mathlib.Core.Bool.{Bool, true, false, _&&_, _||_}
 use mathlib.Core.List.{List}
 use Prim.Native.Nat.{ℕ, suc, _+_, _-_, _*_, _/_, _%_, _<_, _≤_}
-use native.Mathlib.Nat.{div-lt-iff-lt-mul, mod-lt, div-add-mod', suc-mul, mul-le-mul-right, mul-le-mul, add-mul, one-mul}
+use native.Mathlib.Nat.{div-lt-iff-lt-mul, mod-lt, suc-mul, mul-le-mul-right, mul-le-mul, add-mul, one-mul}
 use native.Mathlib.Omega.{arith}
 use native.Mathlib.Decide.{decLt}
 use borrow.Author.Tests.{lt-ltb}
 use lib.Arith.{digits-div, digits-mod, digits-lt}
 use lib.Dec.{ltb}
-use lib.ListN.{length, getD, replicate, length-replicate, getD-replicate, List·getD-eq-default}
-use Rattle.rules.specs.Images.{Plane}
+use lib.ListN.{getD, replicate, length-replicate, getD-replicate, List·getD-eq-default}
 use Rattle.laws.specs.Tests.{clash}
 use Rattle.words.specs.Words.{wordBit, column, flat, place, rowAt, beside, Within}
 use Rattle.words.specs.declared.Row.{Row}
 use Rattle.words.specs.Digits.{place-zero}
 use Rattle.words.specs.RowLaws.{column-end}
-use Rattle.planes.specs.Scratch.{spot, Sizes, Pixel, Framed, seen, Ready, Drawn, rowBit, stacked, fresh, RowPut}
+use Rattle.planes.specs.Scratch.{spot, Sizes, Pixel, Framed, seen, Ready, rowBit, stacked, fresh, RowPut}
 
 pub row-next : (r w : ℕ) → (r + 1) * w ≡ r * w + w
 row-next r w = add-mul r 1 w ∙ ap (λ (x : ℕ). r * w + x) (one-mul w)
 
 pub row-fits : (k h w : ℕ) → k < h → k * w + w ≤ h * w
 row-fits k h w z = let t : suc k * w ≤ h * w = mul-le-mul-right w z in omega (arith, suc-mul k w)
-
--- two pixels at one bit are one
-pub spot-one : (r c s d : ℕ) → c < 320 → d < 320 → spot r c ≡ spot s d → (r ≡ s) × (c ≡ d)
-spot-one r c s d lc ld e = (omega arith, omega arith)
 
 pub plane-max : (w h : ℕ) → Sizes w h → h * w ≤ 65536
 plane-max w h z = let m : h * w ≤ 256 * 256 = mul-le-mul (z .h-max) (z .w-max) in omega arith

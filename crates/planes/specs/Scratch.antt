@@ -1,11 +1,11 @@
 -- Planes in scratch: a row is four words and then one that is 0, with 33 rows of 0 above and below, so that no loop has an edge.
 -- The bits of a plane are numbered through, 320 to a row: the pixel in row r and column c is bit (r + 33) * 320 + c.
 use mathlib.Core.Path.{_≡_}
-use mathlib.Core.Bool.{Bool, true, false, _&&_, _||_}
+use mathlib.Core.Bool.{Bool, true, _&&_, _||_}
 use mathlib.Core.List.{List}
 use Prim.Native.Nat.{ℕ, _+_, _-_, _*_, _/_, _%_, _<_, _≤_}
 use lib.Dec.{ltb}
-use lib.ListN.{length, getD}
+use lib.ListN.{length}
 use Rattle.rules.specs.Images.{Plane}
 use Rattle.words.specs.Words.{wordBit, beside, Within}
 

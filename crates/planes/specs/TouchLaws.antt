@@ -1,18 +1,17 @@
 -- Laws of touching: three rows joined and then widened by one column are a plane's neighbours.
-use mathlib.Core.Path.{_≡_, refl, sym, ap, ap₂, subst, _∙_}
-use mathlib.Core.Bool.{Bool, true, false, _&&_, _||_}
+use mathlib.Core.Path.{_≡_, sym, ap, _∙_}
+use mathlib.Core.Bool.{true, _&&_, _||_}
 use mathlib.Core.List.{List}
 use Prim.Native.Nat.{ℕ, _+_, _-_, _*_, _/_, _%_, _<_, _≤_}
 use native.Mathlib.Nat.{div-add-mod'}
 use native.Mathlib.Omega.{arith}
-use native.Mathlib.Decide.{decLt, decLe, ℕ-discrete}
-use borrow.Author.Tests.{lt-ltb, ltb-true, le-leb, leb-true}
-use lib.Arith.{digits-lt}
+use native.Mathlib.Decide.{decLt, ℕ-discrete}
+use borrow.Author.Tests.{ltb-true, le-leb, leb-true}
 use lib.Dec.{leb, ltb}
 use Rattle.rules.specs.Images.{Plane}
 use Rattle.rules.specs.Planning.{touch, touching}
-use Rattle.laws.specs.Neighbours.{Touching, touch-out, touch-in}
-use Rattle.laws.specs.Tests.{bool-eq, clash, and-l, and-r, and-in, or-l, or-r, or-cases, some-in, some-out}
+use Rattle.laws.specs.Neighbours.{touch-out, touch-in}
+use Rattle.laws.specs.Tests.{bool-eq, and-l, and-r, and-in, or-l, or-r, or-cases, some-in, some-out}
 use Rattle.words.specs.Words.{wordBit, beside}
 use Rattle.planes.specs.Scratch.{spot, Sizes, Pixel, Framed, seen, rowBit, stacked, fresh}
 use Rattle.planes.specs.PlaneLaws.{pixel-row, seen-at, seen-pixel, row-bit, fresh-at}
@@ -95,7 +94,8 @@ module _ (w h : ℕ) (z : Sizes w h) (from left : List ℕ) (ff : Framed w h fro
           let u' : wordBit from (spot (o / w) (o % w)) ≡ true = sym (seen-at w h z from (o / w) (o % w) ld) ∙ ap (seen w from) (div-add-mod' o w) ∙ u in
           let T = touch-out w r c (o / w) (o % w) lc ld t' in
           fresh-at from left (r + 33) c (omega (arith, z .w-max))
-          ∙ and-in _ _ (around-in from (r + 33) (o / w + 33) c (o % w) (omega (arith, z .w-max)) (omega arith) (omega (arith, T .down)) (omega (arith, T .up)) (omega (arith, T .right)) (omega (arith, T .left)) u') on
+          ∙ and-in _ _ (around-in from (r + 33) (o / w + 33) c (o % w) (omega (arith, z .w-max)) (omega arith) (omega (arith, T .down)) (omega (arith, T .up)) (omega (arith, T .right))
+          (omega (arith, T .left)) u') on
 
       back : (r c : ℕ) → r < h → c < w → r * w + c ≡ p → fresh from left (spot r c) ≡ true → (wordBit left (spot r c) && touching (h * w) (touch w) (seen w from) p) ≡ true
       back r c lr lc ep e =

@@ -7,21 +7,22 @@ use native.Mathlib.Omega.{arith}
 use borrow.Author.Tests.{ne-eqb}
 use lib.Dec.{eqb}
 use lib.ListN.{getD}
-use Rattle.rules.specs.Images.{Plane, rowBytes, bitAt}
+use Rattle.rules.specs.Images.{rowBytes, bitAt}
 use Rattle.rules.specs.Planning.{shadow}
 use Rattle.laws.specs.Tests.{clash}
 use Rattle.image.specs.Packed.{row-bit}
 use Rattle.image.specs.Rows.{packed}
 use Rattle.places.specs.Search.{unheldHere}
 use Rattle.places.specs.Rows.{byte-of}
-use Rattle.quick.specs.Sound.{NoShadow, NoneHangs}
+use Rattle.quick.specs.Sureness.{NoShadow, NoneHangs}
 
 and-none : (a b : Bool) → (a && false && b) ≡ false
 and-none true b = refl
 and-none false b = refl
 
 -- the four planes at a pixel, and whether it is bare of a ring
-held-cases : (low up below above bare : Bool) → (above && not (low || below)) ≡ false → ((up && not low) ≡ true → below ≡ false → bare ≡ false) → ((up || above) && not (low || below) && bare) ≡ false
+held-cases : (low up below above bare : Bool) → (above && not (low || below)) ≡ false → ((up && not low) ≡ true → below ≡ false → bare ≡ false) →
+    ((up || above) && not (low || below) && bare) ≡ false
 held-cases true up below above bare e f = and-none (up || above) bare
 held-cases false up true above bare e f = and-none (up || above) bare
 held-cases false true false above bare e f = f refl refl

@@ -5,21 +5,20 @@ use mathlib.Core.List.{List}
 use Prim.Native.Nat.{ℕ, _+_, _-_, _*_, _/_, _%_, _<_, _≤_}
 use native.Mathlib.Nat.{div-add-mod'}
 use native.Mathlib.Omega.{arith}
-use native.Mathlib.Decide.{decLt}
 use lib.Dec.{ltb}
 use lib.ListN.{length}
 use borrow.Author.Tests.{ltb-true, ltb-false}
-use Rattle.rules.specs.Images.{Plane, rowBytes}
+use Rattle.rules.specs.Images.{rowBytes}
 use Rattle.rules.specs.Planning.{near}
 use Rattle.laws.specs.Tests.{split, clash}
 use Rattle.laws.specs.Places.{digits-in}
 use Rattle.image.specs.Rows.{packed, Clean}
-use Rattle.words.specs.Words.{wordBit, rowPart, Within}
-use Rattle.planes.specs.Scratch.{spot, Sizes, Pixel, Framed, seen, Ready, Drawn, RowPut}
+use Rattle.words.specs.Words.{wordBit, rowPart}
+use Rattle.planes.specs.Scratch.{spot, Sizes, Framed, seen, Drawn, RowPut}
 use Rattle.planes.specs.PlaneLaws.{seen-at}
 use Rattle.places.specs.Search.{Sized}
 use Rattle.places.specs.Planes.{near-same}
-use Rattle.quick.specs.Holding.{packed-part, part-in}
+use Rattle.quick.specs.RowsOfPair.{packed-part, part-in}
 
 pub sizes-of : (w h : ℕ) → Sized w h → Sizes w h
 sizes-of w h s = record { w-min = s .w-low; w-max = s .w-high; h-min = s .h-low; h-max = s .h-high }

@@ -1,8 +1,8 @@
 -- What the contracts cite.
-pub mod Sound
+pub mod Sureness
 -- Laws about it.
-pub mod Holding
-pub mod Trust
+pub mod RowsOfPair
+pub mod NearByThemselves
 pub mod Hanging
 pub mod Layers
 pub mod Stacks

@@ -1,8 +1,8 @@
 -- Laws of the pairs of a stack.
 use mathlib.Core.Path.{_≡_, refl, sym, ap, subst, _∙_}
-use mathlib.Core.Bool.{Bool, true, false, _&&_}
+use mathlib.Core.Bool.{true, false, _&&_}
 use mathlib.Core.List.{List}
-use Prim.Native.Nat.{ℕ, _+_, _-_, _*_, _/_, _<_, _≤_}
+use Prim.Native.Nat.{ℕ, _+_, _-_, _*_, _<_, _≤_}
 use native.Mathlib.Nat.{mul-assoc}
 use native.Mathlib.Omega.{arith}
 use lib.Dec.{ltb}
@@ -12,10 +12,10 @@ use Rattle.rules.specs.Images.{rowBytes, paddingSet}
 use Rattle.laws.specs.Tests.{split, and-l, and-r}
 use Rattle.image.specs.Rows.{packed, Clean}
 use Rattle.image.specs.Packed.{plane-clean}
-use Rattle.places.specs.Search.{badHere, unheldHere, Sized}
+use Rattle.places.specs.Search.{badHere, unheldHere}
 use Rattle.places.specs.Planes.{cut, bad-plane, unheld-plane}
 use Rattle.places.specs.Rows.{pair-in, lower-length, upper-length, rings-length, area-fit, stack-fit, bytes-fit}
-use Rattle.quick.specs.Sound.{Whole, Fine, Long}
+use Rattle.quick.specs.Sureness.{Whole, Fine, Long}
 use Rattle.quick.specs.declared.Sure.{Sure}
 
 -- a plane cut out of a stack without padding bits
@@ -25,7 +25,8 @@ cut-clean w h n i a k s ea ek l long clear =
     rw (z, ea, ek) (plane-clean w h n s long clear i l)
 
 -- pair i, whose planes have their bytes from `at` on and whose rings start at x
-module _ (w h n i rb at x : ℕ) (part sup rings : List ℕ) (W : Whole w h n part sup rings) (er : rb ≡ rowBytes w) (sb : rb ≤ 32) (ea : at ≡ i * (h * rb)) (ex : x ≡ i * (h * w)) (l : i + 1 < n) where
+module _ (w h n i rb at x : ℕ) (part sup rings : List ℕ) (W : Whole w h n part sup rings) (er : rb ≡ rowBytes w) (sb : rb ≤ 32) (ea : at ≡ i * (h * rb)) (ex : x ≡ i * (h * w))
+    (l : i + 1 < n) where
   bytes-is : h * rb ≡ h * rowBytes w
   bytes-is = ap (λ (b : ℕ). h * b) er
 
@@ -86,6 +87,7 @@ module _ (w h n i rb at x : ℕ) (part sup rings : List ℕ) (W : Whole w h n pa
       let e : x + p ≡ y = omega (arith, ltb-false y x t) in
       let lp : p < h * w = omega (arith, ltb-false y x t) in
       subst (λ (z : ℕ). Fine w h q part sup rings z) e (
-        bad-plane w h i (h * rb) (h * w) at x (at + h * rb) (at + h * rb + h * rb) (x + h * w) bytes-is refl ea ex refl refl refl (λ (j : ℕ). q) q part rings refl p lp ∙ good (and-l (s .rings) (s .held) b) p lp,
+        bad-plane w h i (h * rb) (h * w) at x (at + h * rb) (at + h * rb + h * rb) (x + h * w) bytes-is refl ea ex refl refl refl (λ (j : ℕ). q) q part rings refl p lp
+            ∙ good (and-l (s .rings) (s .held) b) p lp,
         unheld-plane w h i (h * rb) (h * w) at x (at + h * rb) (at + h * rb + h * rb) (x + h * w) bytes-is refl ea ex refl refl refl part sup rings p lp ∙ held (and-r (s .rings) (s .held) b) p lp,
       ))

@@ -4,7 +4,7 @@ ghost use mathlib.Core.Path.{_≡_};
 ghost use mathlib.Core.Bool.{false, not, _&&_, _||_};
 ghost use Prim.Native.Nat.{ℕ, _<_};
 ghost use Rattle.rules.specs.Images.{bitAt};
-ghost use Rattle.quick.specs.Sound.{Long, NoShadow, NoneHangs};
+ghost use Rattle.quick.specs.Sureness.{Long, NoShadow, NoneHangs};
 
 fn shadow(low: u8, up: u8) -> u8
     ensures { λ m. ⌜ ((k : ℕ) → k < 8 → bitAt m k ≡ (bitAt up k && not (bitAt low k))) ⌝ }

@@ -16,7 +16,7 @@ ghost use Rattle.words.specs.Words.{column, wordBit, Ones};
 ghost use Rattle.planes.specs.Scratch.{Ready, Drawn};
 ghost use Rattle.places.specs.Search.{Sized, badHere, unheldHere};
 ghost use Rattle.leans.specs.Leaning.{Bare};
-ghost use Rattle.quick.specs.Sound.{Long, Shadeless, Row-sound, Row-good, Row-held};
+ghost use Rattle.quick.specs.Sureness.{Long, Shadeless, Row-sound, Row-good, Row-held};
 
 // Row r. Rings of at most t are near by themselves.
 fn shaded_row(
@@ -36,8 +36,8 @@ fn shaded_row(
     ensures { λ s. ⌜ (s .held ≡ true → Row-held w (now (low .entry)) (now (up .entry)) (now (below .entry)) (now (rings .entry)) r) ⌝ }
 {
     let rb = limits::row_bytes(w);
-    let above = places::bits::less(r, 1);
-    let under = places::bits::smaller(r + 1, h - 1);
+    let above = numbers::less(r, 1);
+    let under = numbers::lesser(r + 1, h - 1);
     let seed = crate::rows::seed_rows(low, up, above * rb, r * rb, under * rb, rb);
     let shadow = crate::rows::shadow_row(low, up, r * rb, rb);
     let mut firsts = [0u64; 4];
@@ -180,13 +180,13 @@ fn rows(
     while r < h {
         let s = row(low, up, below, rings, ones, w, h, from, r, t);
         let n = near_all(low, disc, halves, s.far, w, h, r, q, drawn);
-        if !leans::bits::both(s.rings, n.good) {
+        if !numbers::both(s.rings, n.good) {
             return Sure {
                 rings: false,
                 held: false,
             };
         }
-        held = leans::bits::both(held, s.held);
+        held = numbers::both(held, s.held);
         drawn = n.drawn;
         from = r + 1;
         r = shaded(low, up, w, h, from);
@@ -252,7 +252,8 @@ pub fn pair(
     requires fits { ⌜ (Sized w h × ((2 * (t * t) ≤ q .0) × (q .0 ≤ 1024))) × (Clean w h (now low) × (length (now rings) ≡ h * w)) ⌝ }
     requires planes { ⌜ Long (h * rowBytes w) (now low) (now up) (now below) (now above) × (Ones (now ones) × Halves (q .0) (now halves)) ⌝ }
     ensures { λ s. ⌜ (s .rings ≡ true → (p : ℕ) → p < h * w → badHere w h (q .0) (packed w (now (low .entry))) (packed w (now (up .entry))) (λ o. getD (now (rings .entry)) o 0) p ≡ false) ⌝ }
-    ensures { λ s. ⌜ (s .held ≡ true → (p : ℕ) → p < h * w → unheldHere (packed w (now (low .entry))) (packed w (now (up .entry))) (packed w (now (below .entry))) (packed w (now (above .entry))) (λ o. getD (now (rings .entry)) o 0) p ≡ false) ⌝ }
+    ensures { λ s. ⌜ (s .held ≡ true → (p : ℕ) → p < h * w →
+        unheldHere (packed w (now (low .entry))) (packed w (now (up .entry))) (packed w (now (below .entry))) (packed w (now (above .entry))) (λ o. getD (now (rings .entry)) o 0) p ≡ false) ⌝ }
 {
     let seen = crate::looks::look(low, up, below, above, h * limits::row_bytes(w));
     if seen.shadow == 0 {
@@ -264,6 +265,6 @@ pub fn pair(
     let s = shaded_pair(low, up, below, rings, ones, halves, w, h, q, t);
     Sure {
         rings: s.rings,
-        held: leans::bits::both(s.held, seen.hung == 0),
+        held: numbers::both(s.held, seen.hung == 0),
     }
 }

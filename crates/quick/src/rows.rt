@@ -6,7 +6,7 @@ ghost use mathlib.Core.Bool.{true, not, _&&_, _||_};
 ghost use Prim.Native.Nat.{ℕ, _+_, _<_, _≤_};
 ghost use lib.ListN.{length};
 ghost use Rattle.words.specs.Words.{column, rowPart, beside};
-ghost use Rattle.quick.specs.Sound.{seedPart, shadowPart};
+ghost use Rattle.quick.specs.Sureness.{seedPart, shadowPart};
 
 // The seeds of the row of 32 bytes that starts at byte a. Words are joined as they are read: so the compiler puts reading in place of a
 // call.
@@ -52,7 +52,8 @@ fn seed_short(low: &[u8], up: &[u8], a: usize, n: usize) -> Row
 pub fn seed_rows(low: &[u8], up: &[u8], a: usize, m: usize, z: usize, n: usize) -> Row
     requires low { ⌜ (n ≤ 32) × ((a + n ≤ length (now low)) × ((m + n ≤ length (now low)) × (z + n ≤ length (now low)))) ⌝ }
     requires up { ⌜ (a + n ≤ length (now up)) × ((m + n ≤ length (now up)) × (z + n ≤ length (now up))) ⌝ }
-    ensures { λ r. ⌜ ((c : ℕ) → column r c ≡ ((seedPart (now (low .entry)) (now (up .entry)) a n c || seedPart (now (low .entry)) (now (up .entry)) m n c) || seedPart (now (low .entry)) (now (up .entry)) z n c)) ⌝ }
+    ensures { λ r. ⌜ ((c : ℕ) → column r c ≡ ((seedPart (now (low .entry)) (now (up .entry)) a n c || seedPart (now (low .entry)) (now (up .entry)) m n c)
+        || seedPart (now (low .entry)) (now (up .entry)) z n c)) ⌝ }
 {
     if n == 32 {
         let two = words::rows::either(seed_whole(low, up, a), seed_whole(low, up, m));

@@ -5,7 +5,7 @@ ghost use mathlib.Core.Bool.{true};
 ghost use Prim.Native.Nat.{ℕ, _-_, _*_, _<_, _≤_};
 ghost use Rattle.laws.specs.Discs.{Halves};
 ghost use Rattle.words.specs.Words.{Ones};
-ghost use Rattle.quick.specs.Sound.{Whole, Fine};
+ghost use Rattle.quick.specs.Sureness.{Whole, Fine};
 
 // Whether no ring of the stack is bad and nothing in it is unheld, pair by pair.
 fn pairs(
@@ -46,7 +46,7 @@ fn pairs(
             q,
             t,
         );
-        if !leans::bits::both(s.rings, s.held) {
+        if !numbers::both(s.rings, s.held) {
             return false;
         }
         at = mid;

@@ -1,25 +1,25 @@
 -- Laws of planes read from packed bytes, row by row.
-use mathlib.Core.Path.{_≡_, refl, sym, ap, ap₂, subst, _∙_}
+use mathlib.Core.Path.{_≡_, refl, sym, ap, ap₂, _∙_}
 use mathlib.Core.Bool.{Bool, true, false, _&&_}
 use mathlib.Core.List.{List}
 use Prim.Native.Nat.{ℕ, _+_, _-_, _*_, _/_, _%_, _<_, _≤_}
 use native.Mathlib.Nat.{mul-le-mul, div-add-mod'}
 use native.Mathlib.Omega.{arith}
-use native.Mathlib.Decide.{decLt, decLe}
-use borrow.Author.Tests.{lt-ltb, le-ltb, ltb-true, le-leb, lt-leb, leb-true}
-use lib.Arith.{digits-div, digits-mod, digits-lt}
+use native.Mathlib.Decide.{decLt}
+use borrow.Author.Tests.{lt-ltb, le-ltb, ltb-true, le-leb, leb-true}
+use lib.Arith.{digits-div, digits-mod}
 use lib.Dec.{ltb, leb}
-use lib.ListN.{length, getD}
+use lib.ListN.{length}
 use Rattle.rules.specs.Images.{Plane, rowBytes}
-use Rattle.laws.specs.Tests.{split, clash, and-l, and-r, and-in, and-false}
+use Rattle.laws.specs.Tests.{split, and-l, and-r, and-false}
 use Rattle.image.specs.Rows.{packed, Clean}
 use Rattle.image.specs.Scratch.{bitOf}
 use Rattle.words.specs.Words.{wordBit, column, rowPart}
 use Rattle.planes.specs.PlaneLaws.{seen-is, pixel-row, row-fits}
-use Rattle.planes.specs.Scratch.{spot, Sizes, Pixel, Framed, Ready, Drawn, seen, RowPut}
+use Rattle.planes.specs.Scratch.{spot, Sizes, Pixel, Ready, Drawn, RowPut}
 use Rattle.waves.specs.RowLaws.{put-bits, upto-row}
-use Rattle.waves.specs.Rows.{RowBits, Upto}
-use Rattle.rings.specs.Landing.{pixelBits}
+use Rattle.waves.specs.Rows.{Upto}
+use Rattle.rings.specs.NearRings.{pixelBits}
 
 -- the bytes of a row fit four words
 pub row-bytes : (w h : ℕ) → Sizes w h → (rowBytes w ≤ 32) × (w ≤ rowBytes w * 8)
@@ -104,7 +104,8 @@ module _ (w h : ℕ) (f : Plane) where
     pub read-start : Upto 0 (pixelBits w h f) out out
     read-start = record { inner = λ j x. off j (λ P. omega (arith, P .here)) ∙ sym (bits-off j (λ P. omega (arith, P .here))); outer = λ j x. refl }
 
-    pub read-more : (y : ℕ) (x : ℕ → Bool) (mid now : List ℕ) → y < h → ((c : ℕ) → x c ≡ (ltb c w && f (y * w + c))) → RowPut (y + 33) x mid now → Upto y (pixelBits w h f) out mid → Upto (y + 1) (pixelBits w h f) out now
+    pub read-more : (y : ℕ) (x : ℕ → Bool) (mid now : List ℕ) → y < h → ((c : ℕ) → x c ≡ (ltb c w && f (y * w + c))) → RowPut (y + 33) x mid now → Upto y (pixelBits w h f) out mid →
+        Upto (y + 1) (pixelBits w h f) out now
     read-more y x mid now ly X P U =
         upto-row y (y + 1) (pixelBits w h f) (pixelBits w h f) out mid now (put-bits (y + 33) x (pixelBits w h f) mid now (λ c l. X c ∙ sym (bits-at y c ly (omega arith))) P) (λ j a b. refl) U
         (λ j a b. bits-off j (λ P. omega (arith, P .here, P .column-in, z .w-max)) ∙ sym (off j (λ P. omega (arith, P .here, P .column-in, z .w-max)))) (omega arith)

@@ -1,9 +1,9 @@
 -- Laws of the last wave: the rings are those over the near pixels, and either nothing more is reached, or relaxation goes on.
-use mathlib.Core.Path.{_≡_, refl, sym, ap, ap₂, subst, _∙_}
+use mathlib.Core.Path.{_≡_, refl, sym, ap, _∙_}
 use mathlib.Core.List.{List}
 use mathlib.Core.Bool.{Bool, true, false, not, _&&_, _||_, false≢true}
 use mathlib.Core.Logic.{_⊎_, ⊎-elim}
-use Prim.Native.Nat.{ℕ, zero, suc, _+_, _*_, _≤_, _<_, _/_, _%_}
+use Prim.Native.Nat.{ℕ, zero, suc, _*_, _≤_, _<_, _/_, _%_}
 use native.Mathlib.Omega.{arith}
 use borrow.Author.Tests.{eq-eqb, ne-eqb, lt-ltb, le-ltb}
 use lib.Dec.{ltb, eqb, leb}
@@ -18,17 +18,17 @@ use Rattle.laws.specs.Tests.{split, clash, bool-eq, and-l, and-r, and-in, and-f
 use Rattle.laws.specs.Waves.{joined-free, grown-within, near-itself}
 use Rattle.words.specs.Words.{wordBit}
 use Rattle.planes.specs.PlaneLaws.{plane-max, seen-is, fresh-in}
-use Rattle.planes.specs.Scratch.{spot, Sizes, Framed, Ready, Drawn, seen, fresh}
+use Rattle.planes.specs.Scratch.{spot, Sizes, Ready, Drawn, seen, fresh}
 use Rattle.planes.specs.TouchLaws.{touching-out, touching-same, fresh-seen}
-use Rattle.waves.specs.Fronts.{Afloat, Waved, Ended}
+use Rattle.waves.specs.Fronts.{WavePlanes, Waved}
 use Rattle.waves.specs.Rows.{Room, Still}
 use Rattle.waves.specs.WaveLaws.{room-within}
-use Rattle.sweeps.specs.Marks.{Grows, Kit}
+use Rattle.sweeps.specs.Marks.{Grows, SweepPlanes}
 use Rattle.sweeps.specs.Relaxing.{at-rest}
 use Rattle.sweeps.specs.Rings.{later, Frame}
-use Rattle.rings.specs.Landing.{nearIn, nearBits, Apart, NearBy, Landed, Rooms, Whole}
+use Rattle.rings.specs.NearRings.{nearIn, nearBits, Apart, NearBy, NearWaves, Rooms, Whole}
 use Rattle.rings.specs.FarLaws.{near-seen}
-use Rattle.rings.specs.GoingLaws.{waves-going}
+use Rattle.rings.specs.SweepingLaws.{waves-sweeping}
 
 -- a pixel with a ring is one of the plane, and joined by as many steps as its ring says
 module _ (w h k : ℕ) (over seed : Plane) (p : ℕ) (lp : p < h * w) (a : 0 < getD (grown (h * w) (touch w) over seed k) p 0) where
@@ -47,7 +47,7 @@ module _ (w h k : ℕ) (over seed : Plane) (p : ℕ) (lp : p < h * w) (a : 0 < g
       go (suc j) e = near-by (suc j) p lp (omega (arith, bounded (h * w) (touch w) over seed k p lp)) (path (h * w) (touch w) over seed j p lp (born (h * w) (touch w) over seed k p j lp e))
 
 -- the waves that are in were waves over the near pixels, once the far ones are dropped from what is left
-pub near-waved : (w h q k : ℕ) (low over seed : Plane) (front left left' got ring : List ℕ) → Landed w h q k low over seed front left got ring
+pub near-waved : (w h q k : ℕ) (low over seed : Plane) (front left left' got ring : List ℕ) → NearWaves w h q k low over seed front left got ring
     → ((p : ℕ) → p < h * w → seen w left' p ≡ (seen w left p && near w h q low p)) → Waved w h k (nearIn w h q low over) seed front left' got ring
 unfolding nearIn
 near-waved w h q k low over seed front left left' got ring D near-left = record {
@@ -78,7 +78,7 @@ module _ (w h k : ℕ) (over seed : Plane) (front left ring : List ℕ) (z : Siz
   closed : ((p : ℕ) → p < h * w → seen w left p ≡ true → touching (h * w) (touch w) (seen w front) p ≡ true → ⊥) → ring ≡ grown (h * w) (touch w) over seed (h * w)
   closed none =
       at-rest w h over seed (λ p. ltb 0 (getD ring p 0)) frame ring (λ p. false)
-      (waves-going w h over seed frame k pos ring rings (λ p. false)
+      (waves-sweeping w h over seed frame k pos ring rings (λ p. false)
       (λ p lp f e t. absurd (none p lp (still-left p lp f e) (front-touching p t))) (λ p lp e. absurd (false≢true e)))
       (λ p lp. refl)
 
@@ -88,7 +88,7 @@ module _ (w h k : ℕ) (over seed : Plane) (front left ring : List ℕ) (z : Siz
       s (spot (o / w) (o % w)) (spot (p / w) (p % w)) (sym (seen-is w h z front o) ∙ b) (sym (seen-is w h z left p) ∙ a))
 
 -- no wave goes on, before the far pixels are dropped
-pub landed-whole : (w h q k : ℕ) (low over seed : Plane) (front left got ring : List ℕ) → Sizes w h → Landed w h q k low over seed front left got ring → Still front left
+pub landed-whole : (w h q k : ℕ) (low over seed : Plane) (front left got ring : List ℕ) → Sizes w h → NearWaves w h q k low over seed front left got ring → Still front left
     → Whole w h (nearIn w h q low over) seed got ring
 unfolding nearIn
 landed-whole w h q k low over seed front left got ring z D s = record {
@@ -101,14 +101,15 @@ landed-whole w h q k low over seed front left got ring z D s = record {
 }
 
 -- nor after that
-pub whole-still : (w h k : ℕ) (over seed : Plane) (front left got ring : List ℕ) → Sizes w h → 0 < k → Apart w h over seed → Waved w h k over seed front left got ring → Still front left → Whole w h over seed got ring
+pub whole-still : (w h k : ℕ) (over seed : Plane) (front left got ring : List ℕ) → Sizes w h → 0 < k → Apart w h over seed → Waved w h k over seed front left got ring → Still front left →
+    Whole w h over seed got ring
 whole-still w h k over seed front left got ring z pos ap' W s = record {
   rings = closed-still w h k over seed front left ring z pos ap' (W .rings) (W .fronts) (λ p lp a e. W .lefts p lp ∙ and-in (over p) _ a (eq-eqb (getD ring p 0) 0 e)) s;
   gots = W .gots;
 }
 
 -- what is left and touches the front is marked
-module _ (w h k : ℕ) (over seed : Plane) (ahead front left got ring : List ℕ) (A : Afloat w h ahead front left got ring) (pos : 0 < k) (ap' : Apart w h over seed)
+module _ (w h k : ℕ) (over seed : Plane) (ahead front left got ring : List ℕ) (A : WavePlanes w h ahead front left got ring) (pos : 0 < k) (ap' : Apart w h over seed)
     (W : Waved w h k over seed front left got ring) where
   left-over : (p : ℕ) → p < h * w → over p ≡ true → getD ring p 0 ≡ 0 → seen w left p ≡ true
   left-over p lp a e = W .lefts p lp ∙ and-in (over p) _ a (eq-eqb (getD ring p 0) 0 e)
@@ -137,14 +138,15 @@ module _ (w h k : ℕ) (over seed : Plane) (ahead front left got ring : List ℕ
   pub relaxes : (marks : List ℕ) → ((j : ℕ) → wordBit marks j ≡ fresh front left j) → Grows w h over seed (λ p. ltb 0 (getD ring p 0)) ring marks got left
   relaxes marks m = record {
     frame = record { apart = ap'; room = plane-max w h (A .sizes) };
-    going = waves-going w h over seed (record { apart = ap'; room = plane-max w h (A .sizes) }) k pos ring (W .rings) (seen w marks)
+    sweeping = waves-sweeping w h over seed (record { apart = ap'; room = plane-max w h (A .sizes) }) k pos ring (W .rings) (seen w marks)
         (λ p lp f e t. marks-seen marks m p lp ∙ and-in _ _ (left-over p lp f e) (front-touching w h k over seed front left ring (A .sizes) pos ap' (W .rings) (W .fronts) left-over p t))
         (λ p lp e. sym (left-later p lp) ∙ and-l (seen w left p) _ (sym (marks-seen marks m p lp) ∙ e));
     cands = left-later;
     gots = W .gots;
   }
 
-pub kit-of : (w h : ℕ) (ahead front left got ring marks : List ℕ) → Afloat w h ahead front left got ring → length marks ≡ 1610 → ((j : ℕ) → wordBit marks j ≡ fresh front left j) → Kit w h ring marks got left
+pub kit-of : (w h : ℕ) (ahead front left got ring marks : List ℕ) → WavePlanes w h ahead front left got ring → length marks ≡ 1610 → ((j : ℕ) → wordBit marks j ≡ fresh front left j) →
+    SweepPlanes w h ring marks got left
 kit-of w h ahead front left got ring marks A e m = record {
   sizes = A .sizes;
   ring-long = A .ring-long;
@@ -156,14 +158,16 @@ kit-of w h ahead front left got ring marks A e m = record {
 }
 
 -- got stays room for pixels of the rows that are gone to
-pub room-joined : (w h : ℕ) (ahead a b l : List ℕ) → length l ≡ 1610 → Room w h ahead a → Room w h ahead b → ((j : ℕ) → wordBit l j ≡ true → (wordBit a j ≡ true) ⊎ (wordBit b j ≡ true)) → Room w h ahead l
+pub room-joined : (w h : ℕ) (ahead a b l : List ℕ) → length l ≡ 1610 → Room w h ahead a → Room w h ahead b → ((j : ℕ) → wordBit l j ≡ true → (wordBit a j ≡ true) ⊎ (wordBit b j ≡ true)) →
+    Room w h ahead l
 room-joined w h ahead a b l e A B f = record {
   ready = record { long = e; framed = λ j u. ⊎-elim (A .ready .framed j) (B .ready .framed j) (f j u) };
   sparse = λ k j x y z. split (wordBit l j) (λ u. ⊎-elim (λ v. clash v (A .sparse k j x y z)) (λ v. clash v (B .sparse k j x y z)) (f j u)) (λ u. u);
 }
 
 -- what is grown over near pixels, near to another plane that has the same pixels
-pub whole-same : (w h : ℕ) (over over' seed seed' : Plane) (got ring : List ℕ) → ((p : ℕ) → p < h * w → over p ≡ over' p) → ((p : ℕ) → p < h * w → seed p ≡ seed' p) → Whole w h over seed got ring → Whole w h over' seed' got ring
+pub whole-same : (w h : ℕ) (over over' seed seed' : Plane) (got ring : List ℕ) → ((p : ℕ) → p < h * w → over p ≡ over' p) → ((p : ℕ) → p < h * w → seed p ≡ seed' p) →
+    Whole w h over seed got ring → Whole w h over' seed' got ring
 whole-same w h over over' seed seed' got ring eo es W = record { rings = W .rings ∙ grown-same (h * w) (touch w) over over' seed seed' eo es; gots = W .gots }
 
 -- No wave yet: no pixel has a ring, and the seeds are what the first wave leans on
@@ -188,7 +192,8 @@ near-equal w h q low low' e p = bool-eq _ _
     some-in (h * w) (λ o. low o && leb (distance² w p o) q) o lo (and-in (low o) _ (e o lo ∙ and-l (low' o) _ t) (and-r (low' o) _ t)))
 
 -- the far pixels dropped from a plane that waves go over
-pub dropped-afloat : (w h : ℕ) (ahead front left left' got ring : List ℕ) → length left' ≡ length left → ((j : ℕ) → wordBit left' j ≡ true → wordBit left j ≡ true) → Afloat w h ahead front left got ring → Afloat w h ahead front left' got ring
+pub dropped-afloat : (w h : ℕ) (ahead front left left' got ring : List ℕ) → length left' ≡ length left → ((j : ℕ) → wordBit left' j ≡ true → wordBit left j ≡ true) →
+    WavePlanes w h ahead front left got ring → WavePlanes w h ahead front left' got ring
 dropped-afloat w h ahead front left left' got ring e sub A = record {
   sizes = A .sizes;
   aheads = A .aheads;

@@ -2,19 +2,19 @@
 use mathlib.Core.Path.{_≡_, refl, sym, ap, ap₂, subst, _∙_}
 use mathlib.Core.Bool.{Bool, true, false, _&&_}
 use mathlib.Core.List.{List}
-use Prim.Native.Nat.{ℕ, suc, _+_, _-_, _*_, _/_, _%_, _<_, _≤_}
+use Prim.Native.Nat.{ℕ, _+_, _-_, _*_, _/_, _%_, _<_, _≤_}
 use native.Mathlib.Omega.{arith}
 use native.Mathlib.Decide.{decLt}
 use lib.Arith.{digits-div, digits-mod}
-use lib.ListN.{length, getD}
+use lib.ListN.{getD}
 use Rattle.rules.specs.Planning.{near}
-use Rattle.laws.specs.Tests.{split, clash, and-l, and-false}
-use Rattle.words.specs.Words.{wordBit, column}
+use Rattle.laws.specs.Tests.{split, and-l}
+use Rattle.words.specs.Words.{wordBit}
 use Rattle.planes.specs.PlaneLaws.{seen-is, pixel-row, row-bit, fresh-none, framed-row}
-use Rattle.planes.specs.Scratch.{spot, Sizes, Framed, Ready, seen, fresh, rowBit, RowPut}
+use Rattle.planes.specs.Scratch.{spot, Sizes, Framed, seen, fresh, rowBit, RowPut}
 use Rattle.waves.specs.RowLaws.{put-bits, kept-bits, upto-row, gap-none, none-before, none-behind}
 use Rattle.waves.specs.Rows.{Room, RowBits, Upto}
-use Rattle.rings.specs.Landing.{nearBits}
+use Rattle.rings.specs.NearRings.{nearBits}
 
 -- one row, of which the far pixels are dropped
 near-at : (w h q : ℕ) (low left : List ℕ) (k c : ℕ) → c < 320 → nearBits w h q low left (k * 320 + c) ≡ (wordBit left (k * 320 + c) && near w h q (seen w low) ((k - 33) * w + c))
@@ -30,7 +30,8 @@ unfolding nearBits
 near-same w h q low left left' j e = ap (λ (b : Bool). b && near w h q (seen w low) ((j / 320 - 33) * w + j % 320)) e
 
 pub drop-row : (w h q y : ℕ) (low left left' : List ℕ) (own close both : ℕ → Bool) → Sizes w h → Framed w h left → y < h → ((c : ℕ) → own c ≡ rowBit left (y + 33) c)
-    → ((c : ℕ) → c < w → close c ≡ near w h q (seen w low) (y * w + c)) → ((c : ℕ) → both c ≡ (own c && close c)) → RowPut (y + 33) both left left' → RowBits (y + 33) (nearBits w h q low left) left left'
+    → ((c : ℕ) → c < w → close c ≡ near w h q (seen w low) (y * w + c)) → ((c : ℕ) → both c ≡ (own c && close c)) → RowPut (y + 33) both left left' →
+    RowBits (y + 33) (nearBits w h q low left) left left'
 drop-row w h q y low left left' own close both z fr ly O N B P = put-bits (y + 33) both (nearBits w h q low left) left left' at P
   where
     e33 : y + 33 - 33 ≡ y
@@ -38,7 +39,8 @@ drop-row w h q y low left left' own close both z fr ly O N B P = put-bits (y + 3
 
     at : (c : ℕ) → c < 256 → both c ≡ nearBits w h q low left ((y + 33) * 320 + c)
     at c l = B c ∙ ap (λ (b : Bool). b && close c) (O c ∙ row-bit left (y + 33) c l) ∙ elim (decLt c w) [
-      | yes a ↦ ap (λ (b : Bool). wordBit left ((y + 33) * 320 + c) && b) (N c a ∙ ap (λ (r : ℕ). near w h q (seen w low) (r * w + c)) (sym e33)) ∙ sym (near-at w h q low left (y + 33) c (omega arith))
+      | yes a ↦ ap (λ (b : Bool). wordBit left ((y + 33) * 320 + c) && b) (N c a ∙ ap (λ (r : ℕ). near w h q (seen w low) (r * w + c)) (sym e33))
+          ∙ sym (near-at w h q low left (y + 33) c (omega arith))
       | no a ↦ split (wordBit left ((y + 33) * 320 + c))
           (λ u. absurd (omega (arith, framed-row w h z left (y + 33) c fr (omega arith) u)))
           (λ u. ap (λ (b : Bool). b && close c) u ∙ sym (near-none w h q low left ((y + 33) * 320 + c) u))
@@ -46,14 +48,16 @@ drop-row w h q y low left left' own close both z fr ly O N B P = put-bits (y + 3
 
 pub keep-row : (w h q y : ℕ) (low left : List ℕ) (own : ℕ → Bool) → ((c : ℕ) → own c ≡ rowBit left (y + 33) c) → ((c : ℕ) → own c ≡ false) → RowBits (y + 33) (nearBits w h q low left) left left
 keep-row w h q y low left own O e =
-    kept-bits (y + 33) (nearBits w h q low left) left (λ c l. let u : wordBit left ((y + 33) * 320 + c) ≡ false = sym (row-bit left (y + 33) c l) ∙ sym (O c) ∙ e c in near-none w h q low left ((y + 33) * 320 + c) u ∙ sym u)
+    kept-bits (y + 33) (nearBits w h q low left) left (λ c l. let u : wordBit left ((y + 33) * 320 + c) ≡ false = sym (row-bit left (y + 33) c l) ∙ sym (O c)
+    ∙ e c in near-none w h q low left ((y + 33) * 320 + c) u ∙ sym u)
 
 -- all rows that are gone to
 module _ (w h q : ℕ) (ahead low left : List ℕ) (z : Sizes w h) (R : Room w h ahead left) where
   pub drop-start : Upto (getD ahead 0 0) (nearBits w h q low left) left left
   drop-start = record { inner = λ j x. let u = none-before w h j ahead left z R x in u ∙ sym (near-none w h q low left j u); outer = λ j x. refl }
 
-  pub drop-more : (y y' : ℕ) (mid now : List ℕ) → y < h → y < y' → y' ≡ getD ahead (y + 1) 0 → RowBits (y + 33) (nearBits w h q low mid) mid now → Upto y (nearBits w h q low left) left mid → Upto y' (nearBits w h q low left) left now
+  pub drop-more : (y y' : ℕ) (mid now : List ℕ) → y < h → y < y' → y' ≡ getD ahead (y + 1) 0 → RowBits (y + 33) (nearBits w h q low mid) mid now → Upto y (nearBits w h q low left) left mid →
+      Upto y' (nearBits w h q low left) left now
   drop-more y y' mid now ly lt e W U =
       upto-row y y' (nearBits w h q low left) (nearBits w h q low mid) left mid now W (λ j a b. near-same w h q low mid left j (U .outer j a)) U
       (λ j a b. let u = gap-none w h y y' j ahead left z R ly e a b in near-none w h q low left j u ∙ sym u) lt
@@ -65,7 +69,8 @@ module _ (w h q : ℕ) (ahead low left : List ℕ) (z : Sizes w h) (R : Room w h
   ]
 
 -- what is left afterwards, by its pixels
-pub near-seen : (w h q : ℕ) → Sizes w h → (low left left' : List ℕ) → ((j : ℕ) → wordBit left' j ≡ nearBits w h q low left j) → (p : ℕ) → p < h * w → seen w left' p ≡ (seen w left p && near w h q (seen w low) p)
+pub near-seen : (w h q : ℕ) → Sizes w h → (low left left' : List ℕ) → ((j : ℕ) → wordBit left' j ≡ nearBits w h q low left j) → (p : ℕ) → p < h * w →
+    seen w left' p ≡ (seen w left p && near w h q (seen w low) p)
 near-seen w h q z low left left' e p lp =
     let (lr, lc) = pixel-row w h z p lp in
     seen-is w h z left' p ∙ e (spot (p / w) (p % w)) ∙ near-at w h q low left (p / w + 33) (p % w) (omega (arith, z .w-max))
@@ -80,7 +85,8 @@ module _ (w h : ℕ) (ahead front left marks : List ℕ) (z : Sizes w h) (Rl : R
   pub mark-start : Upto (getD ahead 0 0) (fresh front left) marks marks
   mark-start = record { inner = λ j x. none-before w h j ahead marks z Rm x ∙ sym (fresh-none front left j (none-before w h j ahead left z Rl x)); outer = λ j x. refl }
 
-  pub mark-more : (y y' : ℕ) (x : ℕ → Bool) (mid now : List ℕ) → y < h → y < y' → y' ≡ getD ahead (y + 1) 0 → ((c : ℕ) → c < 256 → x c ≡ fresh front left ((y + 33) * 320 + c)) → RowPut (y + 33) x mid now
+  pub mark-more : (y y' : ℕ) (x : ℕ → Bool) (mid now : List ℕ) → y < h → y < y' → y' ≡ getD ahead (y + 1) 0 → ((c : ℕ) → c < 256 → x c ≡ fresh front left ((y + 33) * 320 + c)) →
+      RowPut (y + 33) x mid now
       → Upto y (fresh front left) marks mid → Upto y' (fresh front left) marks now
   mark-more y y' x mid now ly lt e X P U =
       upto-row y y' (fresh front left) (fresh front left) marks mid now (put-bits (y + 33) x (fresh front left) mid now X P) (λ j a b. refl) U

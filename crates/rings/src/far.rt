@@ -10,7 +10,7 @@ ghost use Rattle.image.specs.Rows.{packed, Clean};
 ghost use Rattle.words.specs.Words.{wordBit};
 ghost use Rattle.planes.specs.Scratch.{Sizes, Framed, Ready, Drawn, fresh};
 ghost use Rattle.waves.specs.Rows.{Aheads, Room, RowBits};
-ghost use Rattle.rings.specs.Landing.{nearBits};
+ghost use Rattle.rings.specs.NearRings.{nearBits};
 
 // A packed plane into scratch; n is the number of bytes of a row.
 pub fn read_plane(s: &[u8], out: &mut [u64], w: usize, h: usize, n: usize)
@@ -27,7 +27,8 @@ pub fn read_plane(s: &[u8], out: &mut [u64], w: usize, h: usize, n: usize)
 // Drops the pixels of row y that are not near.
 fn drop_row(low: &[u64], left: &mut [u64], y: usize, half: &[usize], q: Bound)
     requires { ⌜ (length (now low) ≡ 1610) × (length (now left) ≡ 1610) × (y < 256) × (q .0 ≤ 1024) × Halves (q .0) (now half) ⌝ }
-    ensures { λ _. ⌜ ((w h : ℕ) → Sizes w h → Framed w h (now (low .entry)) → Framed w h (now (left .entry)) → y < h → RowBits (y + 33) (nearBits w h (q .0) (now (low .entry)) (now (left .entry))) (now (left .entry)) (now (left .exit))) ⌝ }
+    ensures { λ _. ⌜ ((w h : ℕ) → Sizes w h → Framed w h (now (low .entry)) → Framed w h (now (left .entry)) → y < h →
+        RowBits (y + 33) (nearBits w h (q .0) (now (low .entry)) (now (left .entry))) (now (left .entry)) (now (left .exit))) ⌝ }
 {
     let own = planes::rows::row(left, y + 33);
     if !words::rows::any(own) {
@@ -57,12 +58,6 @@ pub fn drop_far(
     }
 }
 
-fn either(a: bool, b: bool) -> bool
-    ensures { λ r. ⌜ (r ≡ false → (a ≡ false) × (b ≡ false)) ⌝ }
-{
-    if a { true } else { b }
-}
-
 // Marks the pixels that are left and touch the front; false where there are none.
 pub fn mark(
     front: &[u64],
@@ -81,7 +76,7 @@ pub fn mark(
     while y < h {
         let now = planes::rows::fresh_row(front, left, y + 33);
         planes::rows::put(marks, y + 33, now);
-        some = either(some, words::rows::any(now));
+        some = numbers::either(some, words::rows::any(now));
         y = ahead[y + 1];
     }
     some

@@ -11,11 +11,11 @@ ghost use Rattle.laws.specs.Discs.{Halves};
 ghost use Rattle.image.specs.Rows.{packed, Clean};
 ghost use Rattle.words.specs.Words.{Ones, wordBit};
 ghost use Rattle.planes.specs.Scratch.{seen};
-ghost use Rattle.waves.specs.Fronts.{Afloat, Waved};
+ghost use Rattle.waves.specs.Fronts.{WavePlanes, Waved};
 ghost use Rattle.waves.specs.Rows.{Room};
-ghost use Rattle.rings.specs.Landing.{Apart, Landed, NearBy, Rooms, Whole, nearIn};
+ghost use Rattle.rings.specs.NearRings.{Apart, NearWaves, NearBy, Rooms, Whole, nearIn};
 
-// Goes on by relaxation where the last wave stood, over what is left.
+// The rings of what is left, by sweeps, from where the last wave stood.
 fn finish(
     ring: &mut [u16],
     front: &[u64],
@@ -26,10 +26,11 @@ fn finish(
     w: usize,
     h: usize,
 )
-    requires { ⌜ Afloat w h (now ahead) (now front) (now left) (now got) (now ring) ⌝ }
+    requires { ⌜ WavePlanes w h (now ahead) (now front) (now left) (now got) (now ring) ⌝ }
     requires { ⌜ Room w h (now ahead) (now marks) ⌝ }
     ensures { λ _. ⌜ Room w h (now (ahead .entry)) (now (marks .exit)) × Room w h (now (ahead .entry)) (now (got .exit)) ⌝ }
-    ensures { λ _. ⌜ ((k : ℕ) → (over seed : ℕ → Bool) → 0 < k → Apart w h over seed → Waved w h k over seed (now (front .entry)) (now (left .entry)) (now (got .entry)) (now (ring .entry)) → Whole w h over seed (now (got .exit)) (now (ring .exit))) ⌝ }
+    ensures { λ _. ⌜ ((k : ℕ) → (over seed : ℕ → Bool) → 0 < k → Apart w h over seed → Waved w h k over seed (now (front .entry)) (now (left .entry)) (now (got .entry)) (now (ring .entry)) →
+        Whole w h over seed (now (got .exit)) (now (ring .exit))) ⌝ }
 {
     if !crate::far::mark(front, left, marks, ahead, w, h) {
         return;
@@ -38,7 +39,7 @@ fn finish(
 }
 
 // Drops what is far, and goes on after k waves: by waves while each has new pixels in 16 rows or more, and then by relaxation.
-fn onward(
+fn farther(
     low: &[u8],
     ring: &mut [u16],
     front: &mut [u64],
@@ -55,11 +56,11 @@ fn onward(
     half: &[usize],
     ones: &[u16],
 )
-    requires { ⌜ Afloat w h (now ahead) (now front) (now left) (now got) (now ring) ⌝ }
+    requires { ⌜ WavePlanes w h (now ahead) (now front) (now left) (now got) (now ring) ⌝ }
     requires { ⌜ Rooms w h (now ahead) (now left) (now got) (now front) (now next) (now lower) ⌝ }
     requires { ⌜ (n ≡ rowBytes w) × Clean w h (now low) × (q .0 ≤ 1024) × (0 < k) × (k < 65536) × Halves (q .0) (now half) × Ones (now ones) ⌝ }
     ensures { λ _. ⌜ Rooms w h (now (ahead .entry)) (now (left .exit)) (now (got .exit)) (now (front .exit)) (now (next .exit)) (now (lower .exit)) ⌝ }
-    ensures { λ _. ⌜ ((over seed : ℕ → Bool) → Landed w h (q .0) k (packed w (now (low .entry))) over seed (now (front .entry)) (now (left .entry)) (now (got .entry)) (now (ring .entry))
+    ensures { λ _. ⌜ ((over seed : ℕ → Bool) → NearWaves w h (q .0) k (packed w (now (low .entry))) over seed (now (front .entry)) (now (left .entry)) (now (got .entry)) (now (ring .entry))
         → Whole w h (nearIn w h (q .0) (packed w (now (low .entry))) over) seed (now (got .exit)) (now (ring .exit))) ⌝ }
 {
     crate::far::read_plane(low, lower, w, h, n);
@@ -85,7 +86,7 @@ fn onward(
 }
 
 // The rings over the near pixels of what is left, where what at most t waves over it reach is near.
-fn over(
+fn waves_first(
     low: &[u8],
     ring: &mut [u16],
     seed: &[u64],
@@ -103,7 +104,7 @@ fn over(
     half: &[usize],
     ones: &[u16],
 )
-    requires { ⌜ Afloat w h (now ahead) (now seed) (now left) (now got) (now ring) ⌝ }
+    requires { ⌜ WavePlanes w h (now ahead) (now seed) (now left) (now got) (now ring) ⌝ }
     requires { ⌜ Rooms w h (now ahead) (now left) (now got) (now front) (now next) (now lower) ⌝ }
     requires { ⌜ (n ≡ rowBytes w) × Clean w h (now low) × (q .0 ≤ 1024) × (0 < t) × (t ≤ 32) × Halves (q .0) (now half) × Ones (now ones) ⌝ }
     ensures { λ _. ⌜ Rooms w h (now (ahead .entry)) (now (left .exit)) (now (got .exit)) (now (front .exit)) (now (next .exit)) (now (lower .exit)) ⌝ }
@@ -118,7 +119,7 @@ fn over(
     if k == 0 {
         return;
     }
-    onward(
+    farther(
         low,
         ring,
         front,
@@ -156,17 +157,18 @@ pub fn rings(
     half: &[usize],
     ones: &[u16],
 )
-    requires { ⌜ Afloat w h (now ahead) (now seed) (now left) (now got) (now ring) ⌝ }
+    requires { ⌜ WavePlanes w h (now ahead) (now seed) (now left) (now got) (now ring) ⌝ }
     requires { ⌜ Rooms w h (now ahead) (now left) (now got) (now front) (now next) (now lower) ⌝ }
     requires { ⌜ (n ≡ rowBytes w) × Clean w h (now low) × (q .0 ≤ 1024) × Halves (q .0) (now half) × Ones (now ones) ⌝ }
     ensures { λ _. ⌜ Rooms w h (now (ahead .entry)) (now (left .exit)) (now (got .exit)) (now (front .exit)) (now (next .exit)) (now (lower .exit)) ⌝ }
     ensures { λ _. ⌜ ((shadow seeds : ℕ → Bool) → Waved w h 0 shadow seeds (now (seed .entry)) (now (left .entry)) (now (got .entry)) (now (ring .entry)) → Apart w h shadow seeds
-        → ((p : ℕ) → p < h * w → seeds p ≡ true → packed w (now (low .entry)) p ≡ true) → Whole w h (nearIn w h (q .0) (packed w (now (low .entry))) shadow) seeds (now (got .exit)) (now (ring .exit))) ⌝ }
+        → ((p : ℕ) → p < h * w → seeds p ≡ true → packed w (now (low .entry)) p ≡ true) →
+        Whole w h (nearIn w h (q .0) (packed w (now (low .entry))) shadow) seeds (now (got .exit)) (now (ring .exit))) ⌝ }
 {
     if q.0 < 2 {
         crate::far::read_plane(low, lower, w, h, n);
         crate::far::drop_far(lower, left, ahead, w, h, q, half);
-        over(
+        waves_first(
             low,
             ring,
             seed,
@@ -187,7 +189,7 @@ pub fn rings(
         return;
     }
     let t = roots::root(q.0 / 2);
-    over(
+    waves_first(
         low,
         ring,
         seed,

@@ -9,18 +9,12 @@ ghost use lib.ListN.{length};
 ghost use Rattle.rules.specs.Reach as rule;
 ghost use Rattle.laws.specs.Discs.{Halves};
 
-fn wide(x: u8) -> usize
-    ensures { λ r. ⌜ r ≡ x ⌝ }
-{
-    x as usize
-}
-
 // The root of m, from the table.
 pub fn root(m: usize) -> usize
     requires { ⌜ m ≤ 1024 ⌝ }
     ensures { λ r. ⌜ r ≡ rule.root m ⌝ }
 {
-    wide(table::ROOTS[m])
+    numbers::wide(table::ROOTS[m])
 }
 
 // How far the disc with squared radius q runs to each side in a row d away from its middle.

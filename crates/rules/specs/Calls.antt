@@ -9,11 +9,10 @@ use Rattle.rules.specs.Images.{rowBytes, sized, rowsOf, stackBytes, ring
 use Rattle.rules.specs.Reach.{settable, reachOf, mostReach, boundOf}
 use Rattle.rules.specs.Planning.{plannedRings, plannedBytes}
 use Rattle.rules.specs.Judging.{verdictOf}
-use Rattle.rules.specs.Jobs.{Job, be32, headEnd, partEnd, supportCount, supportEnd, ringCount, jobEnd, settingsIn, storedIn, partIn, supportIn, ringsStored, layoutOf, fileOf, fileLength, over}
+use Rattle.rules.specs.Jobs.{Job, be32, headEnd, partEnd, supportCount, supportEnd, ringCount, jobEnd, settingsIn, storedIn, partIn, supportIn}
+use Rattle.rules.specs.Jobs.{ringsStored, layoutOf, fileOf, fileLength, over}
 use Rattle.rules.specs.declared.Micrometres.{Micrometres}
 use Rattle.rules.specs.declared.Settings.{Settings}
-use Rattle.rules.specs.declared.Place.{Place}
-use Rattle.rules.specs.declared.Layout.{Layout}
 use Rattle.rules.specs.declared.Reached.{Reached}
 use Rattle.rules.specs.declared.Reached.the-variants.{By, Refused as NotReached}
 use Rattle.rules.specs.declared.Planned.{Planned}
@@ -47,7 +46,7 @@ saysSettings s = s .w ∷ s .h ∷ s .n ∷ s .pitch .0 ∷ s .overhang .0 ∷ [
 
 abbrev pub saysRead : ReadJob → List ℕ
 saysRead (IsJob l) =
-    0 ∷ saysSettings (l .settings) ++ cond (l .stored) 1 0 ∷ l .first ∷ l .part ∷ l .support ∷ l .rings ∷ []
+    0 ∷ saysSettings (l .settings) ++ cond (l .stored) 1 0 ∷ l .head ∷ l .part ∷ l .support ∷ l .rings ∷ []
 saysRead (NotRead k) = k ∷ []
 
 abbrev pub saysCopied : CopiedRings → List ℕ

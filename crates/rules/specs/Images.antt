@@ -1,6 +1,6 @@
 -- Rules 1: sizes, rows, planes and stacks.
 -- A pixel is one number, r * w + c for row r and column c (rule 1.2), so a plane is a test on numbers below h * w and a stack one on layers and pixels.
-use mathlib.Core.Bool.{Bool, true, false, not, _&&_}
+use mathlib.Core.Bool.{Bool, not, _&&_}
 use mathlib.Core.List.{List}
 use Prim.Native.Nat.{ℕ, zero, suc, _+_, _-_, _*_, _/_, _%_, _^_}
 use lib.Dec.{leb, ltb, eqb}

@@ -1,5 +1,5 @@
 -- Rules 5: where the sections of a job file stand, what a file holds, and the file of a job.
-use mathlib.Core.Bool.{Bool, true, false, not, _||_, cond}
+use mathlib.Core.Bool.{Bool, not, _||_, cond}
 use mathlib.Core.List.{List, [], _∷_, _++_}
 use Prim.Native.Nat.{ℕ, zero, suc, _+_, _*_, _/_, _%_}
 use lib.Dec.{eqb}
@@ -81,7 +81,7 @@ layoutOf f =
     record {
       settings = settingsIn f;
       stored = not (eqb (storedIn f) 0);
-      first = 4;
+      head = 4;
       part = headEnd + 4;
       support = partEnd (settingsIn f) + 4;
       rings = supportEnd (settingsIn f) (storedIn f) + 4;

@@ -1,10 +1,10 @@
 -- Rules 4: judging a stack.
-use mathlib.Core.Bool.{Bool, true, false, not, _&&_, _||_}
+use mathlib.Core.Bool.{not, _&&_, _||_}
 use mathlib.Core.List.{List}
 use Prim.Native.Nat.{ℕ, suc, _+_, _-_, _*_, _/_, _%_}
 use lib.Dec.{ltb, eqb}
 use Rattle.rules.specs.Tools.{Found, nothing, found, first}
-use Rattle.rules.specs.Images.{Plane, Stack, Rings, pixel, ringAt}
+use Rattle.rules.specs.Images.{Stack, Rings, pixel, ringAt}
 use Rattle.rules.specs.Planning.{seeds, reached, touch, fits}
 use Rattle.rules.specs.declared.Place.{Place}
 use Rattle.rules.specs.declared.Judged.{Judged}

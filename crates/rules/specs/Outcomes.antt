@@ -6,7 +6,8 @@ use mathlib.Core.List.{List}
 use Prim.Native.Nat.{ℕ}
 use lib.ListN.{length}
 use Rattle.rules.specs.Jobs.{Job, over}
-use Rattle.rules.specs.Calls.{reachAnswer, planAnswer, planSupport, planRings, judgeAnswer, readAnswer, partAnswer, supportAnswer, copyAnswer, copyRings, writeAnswer, writeTo}
+use Rattle.rules.specs.Calls.{reachAnswer, planAnswer, planSupport, planRings, judgeAnswer, readAnswer, partAnswer, supportAnswer, copyAnswer, copyRings}
+use Rattle.rules.specs.Calls.{writeAnswer, writeTo}
 use Rattle.rules.specs.Report.{textOf}
 use Rattle.rules.specs.declared.Micrometres.{Micrometres}
 use Rattle.rules.specs.declared.Settings.{Settings}

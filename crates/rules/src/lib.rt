@@ -48,7 +48,7 @@ pub enum Judged {
 pub struct Layout {
     pub settings: Settings,
     pub stored: bool,
-    pub first: usize,
+    pub head: usize,
     pub part: usize,
     pub support: usize,
     pub rings: usize,

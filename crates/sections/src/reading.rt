@@ -216,7 +216,7 @@ pub fn layout(f: &[u8]) -> Layout
     Layout {
         settings: s,
         stored: c != 0,
-        first: 4,
+        head: 4,
         part: HEAD_END + 4,
         support,
         rings,

@@ -9,7 +9,7 @@ use native.Mathlib.Omega.{arith}
 use lib.Arith.{digits-div, digits-mod}
 use Rattle.rules.specs.Planning.{touch}
 use Rattle.laws.specs.Neighbours.{touch-out, touch-in}
-use Rattle.planes.specs.PlaneLaws.{row-fits, row-next}
+use Rattle.planes.specs.PlaneLaws.{row-next}
 use Rattle.sweeps.specs.Marks.{Least, Beside, Block}
 
 min-at : (a b : ℕ) → (min a b ≡ a) ⊎ (min a b ≡ b)
@@ -55,7 +55,8 @@ pub touch-block : (w h p q : ℕ) → 0 < w → q < h * w → touch w p q ≡ tr
 touch-block w h p q pw lq e =
     let ep = div-add-mod' p w in
     let eq = div-add-mod' q w in
-    let T = touch-out w (p / w) (p % w) (q / w) (q % w) (mod-lt p pw) (mod-lt q pw) (subst (λ (x : ℕ). touch w x (q / w * w + q % w) ≡ true) (sym ep) (subst (λ (x : ℕ). touch w p x ≡ true) (sym eq) e)) in
+    let T = touch-out w (p / w) (p % w) (q / w) (q % w) (mod-lt p pw) (mod-lt q pw)
+    (subst (λ (x : ℕ). touch w x (q / w * w + q % w) ≡ true) (sym ep) (subst (λ (x : ℕ). touch w p x ≡ true) (sym eq) e)) in
     (record { inside = div-lt-iff-lt-mul pw .1 lq; down = T .down; up = T .up; right = T .right; left = T .left }, λ z. T .other (ap (λ (x : ℕ). x / w) z) (ap (λ (x : ℕ). x % w) z))
 
 pub block-touch : (w h p q : ℕ) → 0 < w → Block w h p q → (p ≡ q → ⊥) → (touch w p q ≡ true) × (q < h * w)
@@ -98,7 +99,8 @@ module _ (g : ℕ → ℕ) (w h r c base m ma mb md : ℕ) (cw : c < w) (rh : r 
         a ∙ L .at .2,
       )
 
-  pub least-block : Least (Beside w c) (λ x. g ((r - 1) * w + x)) ma → Least (Beside w c) (λ x. g (base + x)) mb → Least (Beside w c) (λ x. g (min (r + 1) (h - 1) * w + x)) md → Least (Block w h (base + c)) g m
+  pub least-block : Least (Beside w c) (λ x. g ((r - 1) * w + x)) ma → Least (Beside w c) (λ x. g (base + x)) mb → Least (Beside w c) (λ x. g (min (r + 1) (h - 1) * w + x)) md →
+      Least (Block w h (base + c)) g m
   least-block A B′ D = record { below = λ q b. go q b (near-three r h (q / w) rh (b .inside) (omega (arith, b .down, the-row)) (omega (arith, b .up, the-row))); at = pick (min-at3 ma mb md m e) }
     where
       B : Least (Beside w c) (λ x. g (r * w + x)) mb
@@ -113,6 +115,3 @@ module _ (g : ℕ → ℕ) (w h r c base m ma mb md : ℕ) (cw : c < w) (rh : r 
       pick (inl a) = there (r - 1) ma (omega arith) (omega arith) (omega arith) A a
       pick (inr (inl a)) = there r mb (omega arith) (omega arith) (omega arith) B a
       pick (inr (inr a)) = there (min (r + 1) (h - 1)) md (omega arith) (omega arith) (omega arith) D a
-
-pub pixel-in : (w h r c base : ℕ) → r < h → c < w → base ≡ r * w → base + c < h * w
-pixel-in w h r c base rh cw be = omega (arith, row-fits r h w rh)

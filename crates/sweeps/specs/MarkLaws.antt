@@ -1,21 +1,21 @@
 -- Laws of single bits set and cleared, and of marks joined three at a time.
-use mathlib.Core.Path.{_≡_, refl, sym, ap, ap₂, subst, _∙_}
+use mathlib.Core.Path.{_≡_, refl, sym, ap, _∙_}
 use mathlib.Core.List.{List}
-use mathlib.Core.Bool.{Bool, true, false, not, _&&_, _||_}
+use mathlib.Core.Bool.{Bool, true, not, _&&_, _||_}
 use mathlib.Core.Logic.{_⊎_, inl, inr, ⊎-elim}
-use Prim.Native.Nat.{ℕ, suc, _+_, _-_, _*_, _/_, _%_, _^_, _≤_, _<_}
+use Prim.Native.Nat.{ℕ, suc, _+_, _-_, _*_, _^_, _≤_, _<_}
 use native.Mathlib.Decide.{ℕ-discrete, decLt}
 use native.Mathlib.Omega.{arith}
 use borrow.Author.Tests.{ne-eqb, eq-eqb, le-leb}
 use lib.Bits.{bitAnd, bitOr, and-le-l}
 use lib.Dec.{leb, eqb}
-use lib.ListN.{length, getD, set, length-set}
+use lib.ListN.{length, getD, set}
 use lib.Seq.{getD-set-same}
-use Rattle.laws.specs.Tests.{clash, and-l, and-r, and-in, and-true, and-false, or-l, or-r, or-out, or-false}
+use Rattle.laws.specs.Tests.{clash, and-r, and-in, and-true, and-false, or-l, or-r, or-out, or-false}
 use Rattle.words.specs.Words.{wordBit, Digits, beside, Within}
 use Rattle.words.specs.Digits.{digits-zero, digits-and, digits-or}
 use Rattle.words.specs.RowLaws.{digits-but-not, Spreads}
-use Rattle.words.specs.WordLaws.{digits-here, digits-same, Filling, filling-none, filling-more, filling-all}
+use Rattle.words.specs.WordLaws.{digits-here, filling-none, filling-more, filling-all}
 use Rattle.sweeps.specs.Marks.{Cleared, Lit, Marked}
 
 -- one word changed ------------------------------------------------------------------------------------------------------
@@ -38,7 +38,8 @@ module _ (l : List ℕ) (i k b : ℕ) (h : i < length l) (s : getD l i 0 < 2 ^ 6
     where
       W : Within (i * 64) ((i + 1) * 64) (λ j. wordBit l j && not (eqb j (i * 64 + k))) (wordBit l) (wordBit (set l i (bitAnd (getD l i 0) (2 ^ 64 - 1 - b))))
       W = set-word l i _ (λ j. wordBit l j && not (eqb j (i * 64 + k))) h
-          (digits-but-not (getD l i 0) b (i * 64) (i * 64) (i * 64) (wordBit l) (λ j. eqb j (i * 64 + k)) (λ j. wordBit l j && not (eqb j (i * 64 + k))) (digits-here 64 l i s) (B (i * 64)) (λ x y. refl))
+          (digits-but-not (getD l i 0) b (i * 64) (i * 64) (i * 64) (wordBit l) (λ j. eqb j (i * 64 + k)) (λ j. wordBit l j && not (eqb j (i * 64 + k))) (digits-here 64 l i s) (B (i * 64))
+          (λ x y. refl))
 
   -- a set bit is lost, so the word falls
   pub cleared-less : wordBit l (i * 64 + k) ≡ true → getD (set l i (bitAnd (getD l i 0) (2 ^ 64 - 1 - b))) i 0 < getD l i 0
@@ -98,7 +99,8 @@ joined1 t i x cand was h sw sc X = record {
     W : Within (i * 64) ((i + 1) * 64) (λ j. wordBit was j || (beside 1 (λ j. eqb j t) j && wordBit cand j)) (wordBit was) (wordBit (set was i (bitOr (getD was i 0) (bitAnd x (getD cand i 0)))))
     W = set-word was i _ (λ j. wordBit was j || (beside 1 (λ j. eqb j t) j && wordBit cand j)) h
         (digits-or 64 (getD was i 0) _ (i * 64) (i * 64) (i * 64) (wordBit was) (λ j. beside 1 (λ j. eqb j t) j && wordBit cand j) _ (digits-here 64 was i sw)
-        (digits-and 64 x (getD cand i 0) (i * 64) (i * 64) (i * 64) (beside 1 (λ j. eqb j t)) (wordBit cand) (λ j. beside 1 (λ j. eqb j t) j && wordBit cand j) X (digits-here 64 cand i sc) (λ a b. refl)) (λ a b. refl))
+        (digits-and 64 x (getD cand i 0) (i * 64) (i * 64) (i * 64) (beside 1 (λ j. eqb j t)) (wordBit cand) (λ j. beside 1 (λ j. eqb j t) j && wordBit cand j) X (digits-here 64 cand i sc)
+        (λ a b. refl)) (λ a b. refl))
 
     next : (j : ℕ) → t ≤ j + 1 → j ≤ t + 1 → (eqb j t || eqb (j + 1) t || (leb 1 j && eqb (j - 1) t)) ≡ true
     next j lo hi = elim (ℕ-discrete j t) [
@@ -119,17 +121,21 @@ module _ (i k b : ℕ) (lk : k < 64) (two : 2 ≤ i) (B : (a : ℕ) → Digits 6
 
   pub before-word : (x : ℕ) → Spreads 1 0 0 b x → Digits 64 x ((i - 1) * 64) (beside 1 (λ j. eqb j (i * 64 + k)))
   before-word x S =
-      moved (omega arith) (S ((i - 2) * 64) (λ j. eqb j (i * 64 + k)) (lone (i * 64 + k) (i - 2) (inr (omega arith))) (moved {d = (i - 1) * 64} (omega arith) (lone (i * 64 + k) (i - 1) (inr (omega arith)))) (moved (omega arith) (B (i * 64))))
+      moved (omega arith) (S ((i - 2) * 64) (λ j. eqb j (i * 64 + k)) (lone (i * 64 + k) (i - 2) (inr (omega arith)))
+      (moved {d = (i - 1) * 64} (omega arith) (lone (i * 64 + k) (i - 1) (inr (omega arith)))) (moved (omega arith) (B (i * 64))))
 
   pub own-word : (x : ℕ) → Spreads 1 0 b 0 x → Digits 64 x (i * 64) (beside 1 (λ j. eqb j (i * 64 + k)))
   own-word x S =
-      moved (omega arith) (S ((i - 1) * 64) (λ j. eqb j (i * 64 + k)) (lone (i * 64 + k) (i - 1) (inr (omega arith))) (moved (omega arith) (B (i * 64))) (moved {d = (i + 1) * 64} (omega arith) (lone (i * 64 + k) (i + 1) (inl (omega arith)))))
+      moved (omega arith) (S ((i - 1) * 64) (λ j. eqb j (i * 64 + k)) (lone (i * 64 + k) (i - 1) (inr (omega arith))) (moved (omega arith) (B (i * 64)))
+      (moved {d = (i + 1) * 64} (omega arith) (lone (i * 64 + k) (i + 1) (inl (omega arith)))))
 
   pub after-word : (x : ℕ) → Spreads 1 b 0 0 x → Digits 64 x ((i + 1) * 64) (beside 1 (λ j. eqb j (i * 64 + k)))
   after-word x S =
-      moved (omega arith) (S (i * 64) (λ j. eqb j (i * 64 + k)) (B (i * 64)) (moved {d = (i + 1) * 64} (omega arith) (lone (i * 64 + k) (i + 1) (inl (omega arith)))) (moved {d = (i + 2) * 64} (omega arith) (lone (i * 64 + k) (i + 2) (inl (omega arith)))))
+      moved (omega arith) (S (i * 64) (λ j. eqb j (i * 64 + k)) (B (i * 64)) (moved {d = (i + 1) * 64} (omega arith) (lone (i * 64 + k) (i + 1) (inl (omega arith))))
+      (moved {d = (i + 2) * 64} (omega arith) (lone (i * 64 + k) (i + 2) (inl (omega arith)))))
 
-  pub mark-three : (cand m0 m1 m2 m3 : List ℕ) → Joined1 (i * 64 + k) (i - 1) cand m0 m1 → Joined1 (i * 64 + k) i cand m1 m2 → Joined1 (i * 64 + k) (i + 1) cand m2 m3 → Marked (i * 64 + k) cand m3 m0
+  pub mark-three : (cand m0 m1 m2 m3 : List ℕ) → Joined1 (i * 64 + k) (i - 1) cand m0 m1 → Joined1 (i * 64 + k) i cand m1 m2 → Joined1 (i * 64 + k) (i + 1) cand m2 m3 →
+      Marked (i * 64 + k) cand m3 m0
   mark-three cand m0 m1 m2 m3 X Y Z = record {
     adds = λ j lo hi u. elim (decLt j (i * 64)) [
       | yes a ↦ Z .keeps j (Y .keeps j (X .adds j (omega arith) (omega arith) lo hi u))

@@ -9,7 +9,7 @@ use lib.ListN.{getD, length}
 use Rattle.rules.specs.Images.{Plane}
 use Rattle.words.specs.Words.{wordBit}
 use Rattle.planes.specs.Scratch.{Sizes, Framed, seen}
-use Rattle.sweeps.specs.Rings.{later, Going, sumBy, Frame, level}
+use Rattle.sweeps.specs.Rings.{later, Sweeping, sumBy, Frame, level}
 
 -- the least of some numbers ------------------------------------------------------------------------------------------
 
@@ -62,7 +62,7 @@ pub record Spread (t : ℕ) (cand out was : List ℕ) : Type 0 where
 
 -- the planes of one pair while its rings grow --------------------------------------------------------------------------
 
-pub record Kit (w h : ℕ) (ring marks got cand : List ℕ) : Type 0 where
+pub record SweepPlanes (w h : ℕ) (ring marks got cand : List ℕ) : Type 0 where
   pub sizes : Sizes w h
   pub ring-long : length ring ≡ h * w
   pub marks-long : length marks ≡ 1610
@@ -73,7 +73,7 @@ pub record Kit (w h : ℕ) (ring marks got cand : List ℕ) : Type 0 where
 
 pub record Grows (w h : ℕ) (free seed known : Plane) (ring marks got cand : List ℕ) : Type 0 where
   pub frame : Frame w h free seed
-  pub going : Going w h free seed known ring (seen w marks)
+  pub sweeping : Sweeping w h free seed known ring (seen w marks)
   pub cands : (p : ℕ) → p < h * w → seen w cand p ≡ later free known p
   pub gots : (p : ℕ) → p < h * w → seen w got p ≡ ltb 0 (getD ring p 0)
 

@@ -15,7 +15,7 @@ use Rattle.rules.specs.Planning.{touching, grown, touch}
 use Rattle.laws.specs.Growing.{ring-joined, ring-fewest, length-grown}
 use Rattle.laws.specs.Tests.{split, clash, and-l, and-r, and-in, not-in, not-out, some-in}
 use Rattle.laws.specs.Waves.{joined-free}
-use Rattle.sweeps.specs.Rings.{level, sumBy, one, later, Frame, Going}
+use Rattle.sweeps.specs.Rings.{level, sumBy, one, later, Frame, Sweeping}
 
 -- ---- sums over a list
 
@@ -84,7 +84,7 @@ module _ (w h : ℕ) (free seed known : Plane) where
   unfolding later
   not-later p f e = split (known p) (λ t. t) (λ t. clash (and-in (free p) _ f (not-in _ t)) e)
 
-  module _ (fr : Frame w h free seed) (l : List ℕ) (M : Plane) (G : Going w h free seed known l M) where
+  module _ (fr : Frame w h free seed) (l : List ℕ) (M : Plane) (G : Sweeping w h free seed known l M) where
     seed-none : (p : ℕ) → p < h * w → seed p ≡ true → getD l p 0 ≡ 0
     seed-none p lp e = ⊎-elim (λ z. z) (λ z. absurd (fr .apart p lp (joined-free (h * w) (touch w) free seed (G .path p lp z)) e)) (zero-or (getD l p 0))
 
@@ -102,7 +102,14 @@ module _ (w h : ℕ) (free seed known : Plane) where
               (λ (z : getD l p 0 ≡ 0).
               let sd = seed-of s in
               let ne : p ≡ sd .0 → ⊥ = λ (x : p ≡ sd .0). fr .apart p lp f (subst (λ (y : ℕ). seed y ≡ true) (sym x) (sd .2)) in
-              absurd (omega (arith, count-two l p (sd .0) (omega (arith, G .long)) (omega (arith, G .long, sd .1)) ne z (seed-none (sd .0) (sd .1) (sd .2)), G .few o lo, G .long, fr .room, level-zero (getD l p 0) z)))
+              absurd (omega (
+                arith,
+                count-two l p (sd .0) (omega (arith, G .long)) (omega (arith, G .long, sd .1)) ne z (seed-none (sd .0) (sd .1) (sd .2)),
+                G .few o lo,
+                G .long,
+                fr .room,
+                level-zero (getD l p 0) z,
+              )))
               (λ (z : 0 < getD l p 0). (z, omega (arith, level-pos (getD l p 0) z, ih .1)))
               (zero-or (getD l p 0))
 
@@ -122,7 +129,8 @@ module _ (w h : ℕ) (free seed known : Plane) where
     -- one pixel looked at ------------------------------------------------------------------------------------
     module _ (p : ℕ) (lp : p < h * w) (mp : M p ≡ true) (best : ℕ) (low : (q : ℕ) → q < h * w → touch w p q ≡ true → best ≤ level (getD l q 0)) where
       -- it stays, and loses its mark
-      pub kept : (N : Plane) → level (getD l p 0) ≤ best + 1 → ((x : ℕ) → x < h * w → N x ≡ false → (x ≡ p) ⊎ (M x ≡ false)) → ((x : ℕ) → x < h * w → N x ≡ true → M x ≡ true) → Going w h free seed known l N
+      pub kept : (N : Plane) → level (getD l p 0) ≤ best + 1 → ((x : ℕ) → x < h * w → N x ≡ false → (x ≡ p) ⊎ (M x ≡ false)) → ((x : ℕ) → x < h * w → N x ≡ true → M x ≡ true) →
+          Sweeping w h free seed known l N
       kept N k out in' = record {
         long = G .long;
         path = G .path;
@@ -164,7 +172,8 @@ module _ (w h : ℕ) (free seed known : Plane) where
         v-few : best + 1 ≤ sumBy one (set l p (best + 1))
         v-few =
             ⊎-elim
-            (λ (z : getD l p 0 ≡ 0). let a : sumBy one (set l p (best + 1)) + 0 ≡ sumBy one l + 1 = subst (λ (x : ℕ). sumBy one (set l p (best + 1)) + one x ≡ sumBy one l + 1) z count-eq in omega (arith, G .few o lo, bo))
+            (λ (z : getD l p 0 ≡ 0). let a : sumBy one (set l p (best + 1)) + 0 ≡ sumBy one l + 1 = subst (λ (x : ℕ). sumBy one (set l p (best + 1)) + one x ≡ sumBy one l + 1) z count-eq in omega
+            (arith, G .few o lo, bo))
             (λ (z : 0 < getD l p 0). omega (arith, count-eq, one-le (getD l p 0), level-pos (getD l p 0) z, G .few p lp))
             (zero-or (getD l p 0))
 
@@ -178,7 +187,7 @@ module _ (w h : ℕ) (free seed known : Plane) where
         level-le x = elim (ℕ-discrete x p) [ yes a ↦ inr a | no a ↦ inl (subst (λ (y : ℕ). level (getD l x 0) ≤ level y) (sym (other x a)) (omega arith)) ]
 
         pub lowered : (N : Plane) → ((x : ℕ) → x < h * w → N x ≡ false → (x ≡ p) ⊎ ((M x ≡ false) × (touch w x p ≡ true → later free known x ≡ false)))
-            → ((x : ℕ) → x < h * w → N x ≡ true → later free known x ≡ true) → Going w h free seed known (set l p (best + 1)) N
+            → ((x : ℕ) → x < h * w → N x ≡ true → later free known x ≡ true) → Sweeping w h free seed known (set l p (best + 1)) N
         lowered N out in' = record {
           long = length-set l p (best + 1) ∙ G .long;
           path = λ x lx z. elim (ℕ-discrete x p) [

@@ -34,7 +34,7 @@ module _ (w h : ℕ) (free seed : Plane) where
 
   -- rings l, marks M: each ring is the length of a path, none is more than there are rings, known pixels have the fewest steps, and
   -- unmarked free pixels rest
-  pub record Going (known : Plane) (l : List ℕ) (M : Plane) : Type 0 where
+  pub record Sweeping (known : Plane) (l : List ℕ) (M : Plane) : Type 0 where
     pub long : length l ≡ h * w
     pub path : (p : ℕ) → p < h * w → 0 < getD l p 0 → Joined (h * w) (touch w) free seed (getD l p 0) p
     pub few : (p : ℕ) → p < h * w → getD l p 0 ≤ sumBy one l

@@ -2,9 +2,8 @@
 use mathlib.Core.Path.{_≡_, refl, sym, ap, subst, _∙_}
 use mathlib.Core.List.{List}
 use mathlib.Core.Bool.{Bool, true, false, true≢false, false≢true}
-use mathlib.Core.Logic.{_⊎_, inl, inr, ⊎-elim}
+use mathlib.Core.Logic.{inl, inr, ⊎-elim}
 use Prim.Native.Nat.{ℕ, _+_, _-_, _*_, _/_, _%_, _≤_, _<_}
-use native.Mathlib.Nat.{mod-lt, div-lt-iff-lt-mul}
 use native.Mathlib.Decide.{ℕ-discrete, decLt}
 use native.Mathlib.Omega.{arith}
 use lib.Arith.{digits-lt}
@@ -12,12 +11,12 @@ use lib.ListN.{length, getD, set, length-set}
 use Rattle.rules.specs.Images.{Plane}
 use Rattle.rules.specs.Planning.{grown, touch}
 use Rattle.laws.specs.Tests.{split, clash}
-use Rattle.words.specs.Words.{wordBit, bitOfWord, place, column}
+use Rattle.words.specs.Words.{wordBit, bitOfWord, place}
 use Rattle.words.specs.Digits.{place-zero}
 use Rattle.words.specs.WordLaws.{flat-here}
 use Rattle.planes.specs.PlaneLaws.{plane-max, pixel-row, framed-row, seen-is}
-use Rattle.planes.specs.Scratch.{spot, Sizes, Framed, seen}
-use Rattle.sweeps.specs.Marks.{levelAt, Least, Cleared, Lit, Kit, Grows, Moved, Onward, Spread, Block}
+use Rattle.planes.specs.Scratch.{spot, Sizes, seen}
+use Rattle.sweeps.specs.Marks.{levelAt, Least, Cleared, Lit, SweepPlanes, Grows, Moved, Onward, Spread, Block}
 use Rattle.sweeps.specs.Relaxing.{at-rest}
 use Rattle.sweeps.specs.Rings.{level, sumBy}
 use Rattle.sweeps.specs.VisitLaws.{visit-kept, visit-fell, ring-falls}
@@ -28,8 +27,8 @@ cleared-sub t out was cl j u = elim (ℕ-discrete j t) [
   | no q ↦ sym (cl .same j q) ∙ u
 ]
 
-module _ (w h : ℕ) (ring marks got cand : List ℕ) (K : Kit w h ring marks got cand) where
-  kit-kept : (t : ℕ) (marks' : List ℕ) → length marks' ≡ length marks → Cleared t marks' marks → Kit w h ring marks' got cand
+module _ (w h : ℕ) (ring marks got cand : List ℕ) (K : SweepPlanes w h ring marks got cand) where
+  kit-kept : (t : ℕ) (marks' : List ℕ) → length marks' ≡ length marks → Cleared t marks' marks → SweepPlanes w h ring marks' got cand
   kit-kept t marks' e cl = record {
     sizes = K .sizes;
     ring-long = K .ring-long;
@@ -40,7 +39,8 @@ module _ (w h : ℕ) (ring marks got cand : List ℕ) (K : Kit w h ring marks go
     marks-in = λ j u. K .marks-in j (cleared-sub t marks' marks cl j u);
   }
 
-  kit-fell : (t p v : ℕ) (marks1 marks2 got' : List ℕ) → length marks2 ≡ length marks → length got' ≡ length got → Cleared t marks1 marks → Spread t cand marks2 marks1 → Kit w h (set ring p v) marks2 got' cand
+  kit-fell : (t p v : ℕ) (marks1 marks2 got' : List ℕ) → length marks2 ≡ length marks → length got' ≡ length got → Cleared t marks1 marks → Spread t cand marks2 marks1 →
+      SweepPlanes w h (set ring p v) marks2 got' cand
   kit-fell t p v marks1 marks2 got' e f cl sp = record {
     sizes = K .sizes;
     ring-long = length-set ring p v ∙ K .ring-long;
@@ -96,7 +96,8 @@ pub onward-then : {w h : ℕ} {r0 r1 r2 m0 m1 m2 g0 g1 g2 cand : List ℕ} → O
 onward-then A B = record { grows = λ f s n G. B .grows f s n (A .grows f s n G); adds = λ j u. ⊎-elim (A .adds j) (λ v. inr v) (B .adds j u) }
 
 -- bits that are off stay off
-pub clean-sub : (a b : ℕ) (out was : List ℕ) → ((j : ℕ) → wordBit out j ≡ true → wordBit was j ≡ true) → ((j : ℕ) → a ≤ j → j < b → wordBit was j ≡ false) → (j : ℕ) → a ≤ j → j < b → wordBit out j ≡ false
+pub clean-sub : (a b : ℕ) (out was : List ℕ) → ((j : ℕ) → wordBit out j ≡ true → wordBit was j ≡ true) → ((j : ℕ) → a ≤ j → j < b → wordBit was j ≡ false) → (j : ℕ) → a ≤ j → j < b →
+    wordBit out j ≡ false
 clean-sub a b out was f g j x y = split (wordBit out j) (λ u. clash (f j u) (g j x y)) (λ u. u)
 
 -- one more word that is 0
@@ -110,7 +111,8 @@ clean-more a i l e g j x y = elim (decLt j (i * 64)) [
 ]
 
 -- a row without a mark in its columns has none behind them either
-pub row-clean : (w h r : ℕ) (ring marks got cand : List ℕ) (f : ℕ → Bool) → Kit w h ring marks got cand → ((c : ℕ) → f c ≡ Rattle.planes.specs.Scratch.rowBit marks (r + 33) c) → ((c : ℕ) → f c ≡ false)
+pub row-clean : (w h r : ℕ) (ring marks got cand : List ℕ) (f : ℕ → Bool) → SweepPlanes w h ring marks got cand → ((c : ℕ) → f c ≡ Rattle.planes.specs.Scratch.rowBit marks (r + 33) c) →
+    ((c : ℕ) → f c ≡ false)
     → (j : ℕ) → (r + 33) * 320 ≤ j → j < (r + 34) * 320 → wordBit marks j ≡ false
 row-clean w h r ring marks got cand f K F e j lo hi =
     let c : ℕ = j - (r + 33) * 320 in
@@ -129,18 +131,19 @@ pub rows-clean : (w h : ℕ) → Sizes w h → (l : List ℕ) → ((j : ℕ) →
 rows-clean w h z l e p lp = let (a, b) = pixel-row w h z p lp in seen-is w h z l p ∙ e (spot (p / w) (p % w)) (omega arith) (omega (arith, z .w-max))
 
 -- a pair with no mark left has its rings
-pub grows-rest : (w h : ℕ) (free seed known : Plane) (ring marks got cand : List ℕ) → Grows w h free seed known ring marks got cand → ((p : ℕ) → p < h * w → seen w marks p ≡ false) → ring ≡ grown (h * w) (touch w) free seed (h * w)
-grows-rest w h free seed known ring marks got cand G q = at-rest w h free seed known (G .frame) ring (seen w marks) (G .going) q
+pub grows-rest : (w h : ℕ) (free seed known : Plane) (ring marks got cand : List ℕ) → Grows w h free seed known ring marks got cand → ((p : ℕ) → p < h * w → seen w marks p ≡ false) →
+    ring ≡ grown (h * w) (touch w) free seed (h * w)
+grows-rest w h free seed known ring marks got cand G q = at-rest w h free seed known (G .frame) ring (seen w marks) (G .sweeping) q
 
 -- what a visit leaves ---------------------------------------------------------------------------------------------------
 
-module _ (w h : ℕ) (ring marks got cand : List ℕ) (K : Kit w h ring marks got cand) (r q k : ℕ) (lr : r < h) (lc : q * 64 + k < w)
+module _ (w h : ℕ) (ring marks got cand : List ℕ) (K : SweepPlanes w h ring marks got cand) (r q k : ℕ) (lr : r < h) (lc : q * 64 + k < w)
     (mp : wordBit marks (spot r (q * 64 + k)) ≡ true) (best : ℕ) (L : Least (Block w h (r * w + (q * 64 + k))) (levelAt ring) best) where
   t-is : ((r + 33) * 5 + q) * 64 + k ≡ spot r (q * 64 + k)
   t-is = omega arith
 
   pub visit-kept-by : (marks' : List ℕ) → length marks' ≡ length marks → Cleared (((r + 33) * 5 + q) * 64 + k) marks' marks → levelAt ring (r * w + (q * 64 + k)) ≤ best + 1
-      → Kit w h ring marks' got cand × Moved false ring ring marks' marks × Onward w h ring ring marks' marks got got cand
+      → SweepPlanes w h ring marks' got cand × Moved false ring ring marks' marks × Onward w h ring ring marks' marks got got cand
   unfolding levelAt
   visit-kept-by marks' e cl x =
       let cl' : Cleared (spot r (q * 64 + k)) marks' marks = subst (λ (y : ℕ). Cleared y marks' marks) t-is cl in (
@@ -151,7 +154,7 @@ module _ (w h : ℕ) (ring marks got cand : List ℕ) (K : Kit w h ring marks go
 
   pub visit-fell-by : (marks1 marks2 got' : List ℕ) → length marks2 ≡ length marks → length got' ≡ length got → Cleared (((r + 33) * 5 + q) * 64 + k) marks1 marks
       → Spread (((r + 33) * 5 + q) * 64 + k) cand marks2 marks1 → Lit (((r + 33) * 5 + q) * 64 + k) got' got → best + 1 < levelAt ring (r * w + (q * 64 + k)) → best < 65535
-      → Kit w h (set ring (r * w + (q * 64 + k)) (best + 1)) marks2 got' cand × Moved true (set ring (r * w + (q * 64 + k)) (best + 1)) ring marks2 marks
+      → SweepPlanes w h (set ring (r * w + (q * 64 + k)) (best + 1)) marks2 got' cand × Moved true (set ring (r * w + (q * 64 + k)) (best + 1)) ring marks2 marks
       × Onward w h (set ring (r * w + (q * 64 + k)) (best + 1)) ring marks2 marks got' got cand
   unfolding levelAt
   visit-fell-by marks1 marks2 got' e f cl sp li lo sm =

@@ -4,7 +4,7 @@ use mathlib.Core.List.{List}
 use mathlib.Core.Bool.{true, false}
 use mathlib.Core.Logic.{_⊎_, inl, inr, ⊎-elim}
 use Prim.Native.Nat.{ℕ, _+_, _-_, _*_, _/_, _%_, _≤_, _<_}
-use native.Mathlib.Nat.{mod-lt, div-add-mod', div-lt-iff-lt-mul}
+use native.Mathlib.Nat.{div-add-mod'}
 use native.Mathlib.Decide.{ℕ-discrete, decLt}
 use native.Mathlib.Omega.{arith}
 use borrow.Author.Tests.{lt-ltb}
@@ -20,7 +20,7 @@ use Rattle.planes.specs.PlaneLaws.{pixel-row, seen-at, seen-is}
 use Rattle.planes.specs.Scratch.{spot, Sizes, seen}
 use Rattle.sweeps.specs.LeastLaws.{touch-block, block-touch}
 use Rattle.sweeps.specs.Marks.{Spread, levelAt, Least, Cleared, Lit, Marked, Grows, Block}
-use Rattle.sweeps.specs.Relaxing.{kept, lowered, fell, sum-set, level-pos}
+use Rattle.sweeps.specs.Relaxing.{kept, lowered, sum-set, level-pos}
 use Rattle.sweeps.specs.Rings.{level, sumBy, later}
 
 pub spread : (t : ℕ) (cand m0 m1 m2 m3 m4 : List ℕ) → 320 ≤ t → Marked (t - 320) cand m1 m0 → Marked t cand m2 m1 → Marked (t + 320) cand m3 m2 → Cleared t m4 m3 → Spread t cand m4 m0
@@ -65,7 +65,7 @@ module _ (w h : ℕ) (free seed known : Plane) (ring marks got cand : List ℕ) 
       frame = G .frame;
       cands = G .cands;
       gots = G .gots;
-      going = kept w h free seed known (G .frame) ring (seen w marks) (G .going) (r * w + c) lp (seen-here marks ∙ mp) best low (seen w marks') k
+      sweeping = kept w h free seed known (G .frame) ring (seen w marks) (G .sweeping) (r * w + c) lp (seen-here marks ∙ mp) best low (seen w marks') k
           (λ x lx e. elim (ℕ-discrete x (r * w + c)) [ yes a ↦ inl a | no a ↦ inr (sym (same x lx a) ∙ e) ])
           (λ x lx e. elim (ℕ-discrete x (r * w + c)) [
             | yes a ↦ subst (λ (y : ℕ). seen w marks y ≡ true) (sym a) (seen-here marks ∙ mp)
@@ -82,7 +82,8 @@ module _ (w h : ℕ) (free seed known : Plane) (ring marks got cand : List ℕ) 
       unfolding levelAt
       from =
           let o = L .at .0 in
-          let (t, lo) = block-touch w h (r * w + c) o (z .w-min) (L .at .1) (λ (e : r * w + c ≡ o). let q : best ≡ level (getD ring (r * w + c) 0) = L .at .2 ∙ ap (λ (x : ℕ). level (getD ring x 0)) (sym e) in omega arith) in
+          let (t, lo) = block-touch w h (r * w + c) o (z .w-min) (L .at .1)
+          (λ (e : r * w + c ≡ o). let q : best ≡ level (getD ring (r * w + c) 0) = L .at .2 ∙ ap (λ (x : ℕ). level (getD ring x 0)) (sym e) in omega arith) in
           (o, lo, t, L .at .2)
 
       pub visit-fell : (marks1 marks2 got' : List ℕ) → Cleared (spot r c) marks1 marks → Spread (spot r c) cand marks2 marks1 → Lit (spot r c) got' got
@@ -91,10 +92,12 @@ module _ (w h : ℕ) (free seed known : Plane) (ring marks got cand : List ℕ) 
         frame = G .frame;
         cands = G .cands;
         gots = λ x lx. elim (ℕ-discrete x (r * w + c)) [
-          | yes a ↦ rw a (seen-here got' ∙ li .on ∙ sym (ap (ltb 0) (getD-set-same ring (r * w + c) (best + 1) 0 (omega (arith, G .going .long, lp))) ∙ lt-ltb 0 (best + 1) (omega arith)))
-          | no a ↦ seen-is w h z got' x ∙ li .same (spot (x / w) (x % w)) (spot-other x lx a) ∙ sym (seen-is w h z got x) ∙ G .gots x lx ∙ ap (ltb 0) (sym (getD-set-other ring (r * w + c) x (best + 1) 0 a))
+          | yes a ↦ rw a (seen-here got' ∙ li .on ∙ sym (ap (ltb 0) (getD-set-same ring (r * w + c) (best + 1) 0 (omega (arith, G .sweeping .long, lp))) ∙ lt-ltb 0 (best + 1) (omega arith)))
+          | no a ↦ seen-is w h z got' x ∙ li .same (spot (x / w) (x % w)) (spot-other x lx a) ∙ sym (seen-is w h z got x) ∙ G .gots x lx
+              ∙ ap (ltb 0) (sym (getD-set-other ring (r * w + c) x (best + 1) 0 a))
         ];
-        going = lowered w h free seed known (G .frame) ring (seen w marks) (G .going) (r * w + c) lp (seen-here marks ∙ mp) best low (from .0) (from .1) (from .2) (from .3) lower small (seen w marks2) out in';
+        sweeping = lowered w h free seed known (G .frame) ring (seen w marks) (G .sweeping) (r * w + c) lp (seen-here marks ∙ mp) best low (from .0) (from .1) (from .2) (from .3) lower small
+            (seen w marks2) out in';
       }
         where
           later-is : (x : ℕ) → x < h * w → wordBit cand (spot (x / w) (x % w)) ≡ later free known x

@@ -18,14 +18,14 @@ fn level_of(v: u16) -> u32
     if v == 0 { 65536 } else { wide(v) }
 }
 
-pub fn cost_at(plane: &[u16], q: usize) -> u32
+pub fn level_at(plane: &[u16], q: usize) -> u32
     requires { ⌜ q < length (now plane) ⌝ }
     ensures { λ r. ⌜ (r ≡ levelAt (now (plane .entry)) q) × (r ≤ 65536) ⌝ }
 {
     level_of(plane[q])
 }
 
-fn min2(a: u32, b: u32) -> u32
+fn lesser(a: u32, b: u32) -> u32
     ensures { λ r. ⌜ r ≡ min a b ⌝ }
 {
     if a < b { a } else { b }
@@ -53,10 +53,10 @@ fn three(plane: &[u16], w: usize, u: usize, c: usize) -> u32
 {
     let lo = before(c);
     let hi = after(c, w);
-    let x = cost_at(plane, u + lo);
-    let y = cost_at(plane, u + c);
-    let z = cost_at(plane, u + hi);
-    min2(min2(x, y), z)
+    let x = level_at(plane, u + lo);
+    let y = level_at(plane, u + c);
+    let z = level_at(plane, u + hi);
+    lesser(lesser(x, y), z)
 }
 
 // The start of the row before row r, which starts at base, and base where there is none.
@@ -85,5 +85,5 @@ pub fn around(plane: &[u16], w: usize, h: usize, r: usize, c: usize, base: usize
     let x = three(plane, w, up, c);
     let y = three(plane, w, base, c);
     let z = three(plane, w, down, c);
-    min2(min2(x, y), z)
+    lesser(lesser(x, y), z)
 }

@@ -8,7 +8,7 @@ ghost use lib.Dec.{ltb};
 ghost use Rattle.rules.specs.Planning.{touch, grown};
 ghost use Rattle.words.specs.Words.{wordBit};
 ghost use Rattle.planes.specs.Scratch.{spot, seen};
-ghost use Rattle.sweeps.specs.Marks.{Kit, Grows, Moved, Onward};
+ghost use Rattle.sweeps.specs.Marks.{SweepPlanes, Grows, Moved, Onward};
 
 // Takes the mark of the pixel in bit k of word q of row r, and lowers its ring where a neighbour allows it.
 fn visit(
@@ -22,10 +22,10 @@ fn visit(
     q: usize,
     k: usize,
 ) -> bool
-    requires { ⌜ Kit w h (now ring) (now marks) (now got) (now cand) ⌝ }
+    requires { ⌜ SweepPlanes w h (now ring) (now marks) (now got) (now cand) ⌝ }
     requires { ⌜ (r < h) × (q < 5) × (k < 64) × (q * 64 + k < w) ⌝ }
     requires { ⌜ wordBit (now marks) (spot r (q * 64 + k)) ≡ true ⌝ }
-    ensures { λ _. ⌜ Kit w h (now (ring .exit)) (now (marks .exit)) (now (got .exit)) (now (cand .entry)) ⌝ }
+    ensures { λ _. ⌜ SweepPlanes w h (now (ring .exit)) (now (marks .exit)) (now (got .exit)) (now (cand .entry)) ⌝ }
     ensures { λ d. ⌜ Moved d (now (ring .exit)) (now (ring .entry)) (now (marks .exit)) (now (marks .entry)) ⌝ }
     ensures { λ d. ⌜ (d ≡ false → getD (now (marks .exit)) ((r + 33) * 5 + q) 0 < getD (now (marks .entry)) ((r + 33) * 5 + q) 0) ⌝ }
     ensures { λ _. ⌜ Onward w h (now (ring .exit)) (now (ring .entry)) (now (marks .exit)) (now (marks .entry)) (now (got .exit)) (now (got .entry)) (now (cand .entry)) ⌝ }
@@ -36,7 +36,7 @@ fn visit(
     let p = base + c;
     crate::marks::clear_bit(marks, i, k);
     let best = crate::levels::around(ring, w, h, r, c, base);
-    let old = crate::levels::cost_at(ring, p);
+    let old = crate::levels::level_at(ring, p);
     if best + 1 < old {
         ring[p] = (best + 1) as u16;
         crate::marks::set_bit(got, i, k);
@@ -56,9 +56,9 @@ fn settle_row(
     h: usize,
     r: usize,
 ) -> bool
-    requires { ⌜ Kit w h (now ring) (now marks) (now got) (now cand) ⌝ }
+    requires { ⌜ SweepPlanes w h (now ring) (now marks) (now got) (now cand) ⌝ }
     requires { ⌜ r < h ⌝ }
-    ensures { λ _. ⌜ Kit w h (now (ring .exit)) (now (marks .exit)) (now (got .exit)) (now (cand .entry)) ⌝ }
+    ensures { λ _. ⌜ SweepPlanes w h (now (ring .exit)) (now (marks .exit)) (now (got .exit)) (now (cand .entry)) ⌝ }
     ensures { λ d. ⌜ Moved d (now (ring .exit)) (now (ring .entry)) (now (marks .exit)) (now (marks .entry)) ⌝ }
     ensures { λ d. ⌜ (d ≡ false → (j : ℕ) → (r + 33) * 320 ≤ j → j < (r + 34) * 320 → wordBit (now (marks .exit)) j ≡ false) ⌝ }
     ensures { λ _. ⌜ Onward w h (now (ring .exit)) (now (ring .entry)) (now (marks .exit)) (now (marks .entry)) (now (got .exit)) (now (got .entry)) (now (cand .entry)) ⌝ }
@@ -91,8 +91,8 @@ fn sweep(
     w: usize,
     h: usize,
 ) -> bool
-    requires { ⌜ Kit w h (now ring) (now marks) (now got) (now cand) ⌝ }
-    ensures { λ _. ⌜ Kit w h (now (ring .exit)) (now (marks .exit)) (now (got .exit)) (now (cand .entry)) ⌝ }
+    requires { ⌜ SweepPlanes w h (now ring) (now marks) (now got) (now cand) ⌝ }
+    ensures { λ _. ⌜ SweepPlanes w h (now (ring .exit)) (now (marks .exit)) (now (got .exit)) (now (cand .entry)) ⌝ }
     ensures { λ d. ⌜ Moved d (now (ring .exit)) (now (ring .entry)) (now (marks .exit)) (now (marks .entry)) ⌝ }
     ensures { λ d. ⌜ (d ≡ false → (p : ℕ) → p < h * w → seen w (now (marks .exit)) p ≡ false) ⌝ }
     ensures { λ _. ⌜ Onward w h (now (ring .exit)) (now (ring .entry)) (now (marks .exit)) (now (marks .entry)) (now (got .exit)) (now (got .entry)) (now (cand .entry)) ⌝ }
@@ -120,8 +120,8 @@ pub fn settle(
     w: usize,
     h: usize,
 )
-    requires { ⌜ Kit w h (now ring) (now marks) (now got) (now cand) ⌝ }
-    ensures { λ _. ⌜ Kit w h (now (ring .exit)) (now (marks .exit)) (now (got .exit)) (now (cand .entry)) ⌝ }
+    requires { ⌜ SweepPlanes w h (now ring) (now marks) (now got) (now cand) ⌝ }
+    ensures { λ _. ⌜ SweepPlanes w h (now (ring .exit)) (now (marks .exit)) (now (got .exit)) (now (cand .entry)) ⌝ }
     ensures { λ _. ⌜ ((j : ℕ) → wordBit (now (got .exit)) j ≡ true → (wordBit (now (got .entry)) j ≡ true) ⊎ (wordBit (now (cand .entry)) j ≡ true)) ⌝ }
     ensures { λ _. ⌜ ((free seed known : ℕ → Bool) → Grows w h free seed known (now (ring .entry)) (now (marks .entry)) (now (got .entry)) (now (cand .entry))
         → (now (ring .exit) ≡ grown (h * w) (touch w) free seed (h * w)) × ((p : ℕ) → p < h * w → seen w (now (got .exit)) p ≡ ltb 0 (getD (now (ring .exit)) p 0))) ⌝ }

@@ -1,6 +1,6 @@
 -- Rings by waves: the planes of a wave, and what they hold after k of them.
 use mathlib.Core.Path.{_≡_}
-use mathlib.Core.Bool.{true, false, _&&_}
+use mathlib.Core.Bool.{true, _&&_}
 use mathlib.Core.List.{List}
 use Prim.Native.Nat.{ℕ, _*_, _<_, _≤_}
 use lib.Dec.{ltb, eqb}
@@ -12,7 +12,7 @@ use Rattle.planes.specs.Scratch.{Sizes, Ready, seen}
 use Rattle.waves.specs.Rows.{Aheads, Room, Still}
 
 -- the planes of a wave: front, what it leans on, left, what it may reach, and got, what has a ring
-pub record Afloat (w h : ℕ) (ahead front left got ring : List ℕ) : Type 0 where
+pub record WavePlanes (w h : ℕ) (ahead front left got ring : List ℕ) : Type 0 where
   pub sizes : Sizes w h
   pub aheads : Aheads h ahead
   pub front-ready : Ready w h front
@@ -38,6 +38,6 @@ pub record Ended (w h t : ℕ) (over seed : Plane) (left got ring : List ℕ) : 
   pub still : Still front left
 
 -- waves were made, up to t of them: r, or with r = 0 until none went on
-abbrev pub Rolled : ℕ → ℕ → ℕ → ℕ → ℕ → List ℕ → List ℕ → List ℕ → List ℕ → List ℕ → List ℕ → List ℕ → List ℕ → Type 0
-Rolled w h k t r front front' left left' got got' ring ring' = (over seed : Plane) → Waved w h k over seed front left got ring
+abbrev pub WavesMade : ℕ → ℕ → ℕ → ℕ → ℕ → List ℕ → List ℕ → List ℕ → List ℕ → List ℕ → List ℕ → List ℕ → List ℕ → Type 0
+WavesMade w h k t r front front' left left' got got' ring ring' = (over seed : Plane) → Waved w h k over seed front left got ring
     → (0 < r → Waved w h r over seed front' left' got' ring') × (r ≡ 0 → Ended w h t over seed left' got' ring')

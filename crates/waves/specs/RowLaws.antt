@@ -7,13 +7,13 @@ use native.Mathlib.Nat.{mod-lt, div-add-mod', div-lt-iff-lt-mul}
 use native.Mathlib.Omega.{arith}
 use native.Mathlib.Decide.{decLt, decLe}
 use lib.Arith.{digits-div, digits-mod, digits-lt}
-use lib.ListN.{length, getD}
-use Rattle.laws.specs.Tests.{split, clash, and-l, and-false, and-true, or-false, or-l, or-r, or-out, not-out}
-use Rattle.words.specs.Words.{wordBit, column, beside, Within, bitOfWord, Numbered}
+use lib.ListN.{getD}
+use Rattle.laws.specs.Tests.{split, clash, and-true, or-false}
+use Rattle.words.specs.Words.{wordBit, beside, bitOfWord, Numbered}
 use Rattle.words.specs.WordLaws.{flat-here}
-use Rattle.planes.specs.Scratch.{Sizes, Pixel, Framed, Ready, fresh, spot, rowBit, stacked, RowPut}
-use Rattle.planes.specs.PlaneLaws.{fresh-in, fresh-none, fresh-at, row-next, row-fits, row-bit, framed-row}
-use Rattle.waves.specs.Rows.{Aheads, Sparse, Room, RowBits, RowNumbers, RowWave, Upto, WaveTo, Waving, Still}
+use Rattle.planes.specs.Scratch.{Sizes, Framed, Ready, fresh, spot, rowBit, stacked, RowPut}
+use Rattle.planes.specs.PlaneLaws.{fresh-none, row-fits, row-bit, framed-row}
+use Rattle.waves.specs.Rows.{Room, RowBits, RowNumbers, RowWave, Upto, WaveTo, Waving}
 
 -- rows put by columns ---------------------------------------------------------------------------------------------------
 
@@ -69,7 +69,8 @@ module _ (w y v : ℕ) (from to to' left got ring : List ℕ) (own : ℕ → Boo
       nothing-new (λ c h. sym (N c h) ∙ e c) true (λ z. clash refl z) (put-bits (y + 33) now (fresh from left) to to' N T)
 
   pub row-waved : (now rest all had : ℕ → Bool) (left' got' ring' : List ℕ) (more : Bool) → ((c : ℕ) → c < 256 → now c ≡ fresh from left ((y + 33) * 320 + c)) → RowPut (y + 33) now to to'
-      → ((c : ℕ) → rest c ≡ (own c && not (now c))) → RowPut (y + 33) rest left left' → ((c : ℕ) → had c ≡ rowBit got (y + 33) c) → ((c : ℕ) → all c ≡ (had c || now c)) → RowPut (y + 33) all got got'
+      → ((c : ℕ) → rest c ≡ (own c && not (now c))) → RowPut (y + 33) rest left left' → ((c : ℕ) → had c ≡ rowBit got (y + 33) c) → ((c : ℕ) → all c ≡ (had c || now c)) →
+      RowPut (y + 33) all got got'
       → RowNumbers (y * w) v now ring ring' → (more ≡ false → (c : ℕ) → rest c ≡ false) → RowWave w y v true more from to to' left left' got got' ring ring'
   row-waved now rest all had left' got' ring' more N T R L H A G S M = record {
     to-row = put-bits (y + 33) now (fresh from left) to to' N T;
@@ -102,12 +103,16 @@ pub four-numbers : (at v a b c d : ℕ) (l0 l1 l2 l3 l4 : List ℕ) → Numbered
     → RowNumbers at v (wordBit (a ∷ b ∷ c ∷ d ∷ [])) l0 l4
 four-numbers at v a b c d l0 l1 l2 l3 l4 A B C D = record {
   here = λ k h. elim (decLt k 64) [
-    | yes p ↦ D .before (at + k) (omega arith) ∙ C .before (at + k) (omega arith) ∙ B .before (at + k) (omega arith) ∙ A .here k p ∙ ap (λ (t : Bool). cond t v (getD l0 (at + k) 0)) (sym (let z : k ≡ 0 * 64 + k = omega arith in ap (wordBit (a ∷ b ∷ c ∷ d ∷ [])) z ∙ word-column a b c d 0 a k (refl, omega arith) p))
+    | yes p ↦ D .before (at + k) (omega arith) ∙ C .before (at + k) (omega arith) ∙ B .before (at + k) (omega arith) ∙ A .here k p
+        ∙ ap (λ (t : Bool). cond t v (getD l0 (at + k) 0)) (sym (let z : k ≡ 0 * 64 + k = omega arith in ap (wordBit (a ∷ b ∷ c ∷ d ∷ [])) z ∙ word-column a b c d 0 a k (refl, omega arith) p))
     | no p ↦ elim (decLt k 128) [
-      | yes q ↦ D .before (at + k) (omega arith) ∙ C .before (at + k) (omega arith) ∙ word 1 b 64 k refl (omega arith) (omega arith) l1 l2 B ∙ old (A .behind (at + k) (omega arith)) (wordBit (a ∷ b ∷ c ∷ d ∷ []) k)
+      | yes q ↦ D .before (at + k) (omega arith) ∙ C .before (at + k) (omega arith) ∙ word 1 b 64 k refl (omega arith) (omega arith) l1 l2 B
+          ∙ old (A .behind (at + k) (omega arith)) (wordBit (a ∷ b ∷ c ∷ d ∷ []) k)
       | no q ↦ elim (decLt k 192) [
-        | yes r ↦ D .before (at + k) (omega arith) ∙ word 2 c 128 k refl (omega arith) (omega arith) l2 l3 C ∙ old (B .behind (at + k) (omega arith) ∙ A .behind (at + k) (omega arith)) (wordBit (a ∷ b ∷ c ∷ d ∷ []) k)
-        | no r ↦ word 3 d 192 k refl (omega arith) (omega arith) l3 l4 D ∙ old (C .behind (at + k) (omega arith) ∙ B .behind (at + k) (omega arith) ∙ A .behind (at + k) (omega arith)) (wordBit (a ∷ b ∷ c ∷ d ∷ []) k)
+        | yes r ↦ D .before (at + k) (omega arith) ∙ word 2 c 128 k refl (omega arith) (omega arith) l2 l3 C
+            ∙ old (B .behind (at + k) (omega arith) ∙ A .behind (at + k) (omega arith)) (wordBit (a ∷ b ∷ c ∷ d ∷ []) k)
+        | no r ↦ word 3 d 192 k refl (omega arith) (omega arith) l3 l4 D
+            ∙ old (C .behind (at + k) (omega arith) ∙ B .behind (at + k) (omega arith) ∙ A .behind (at + k) (omega arith)) (wordBit (a ∷ b ∷ c ∷ d ∷ []) k)
       ]
     ]
   ];
@@ -124,7 +129,8 @@ four-numbers at v a b c d l0 l1 l2 l3 l4 A B C D = record {
         let z : at + e + (k - e) ≡ at + k = omega arith in
         let y : q * 64 + (k - e) ≡ k = omega arith in
         subst (λ (i : ℕ). getD now i 0 ≡ cond (wordBit (a ∷ b ∷ c ∷ d ∷ []) k) v (getD was i 0)) z
-        (N .here (k - e) (omega arith) ∙ ap (λ (t : Bool). cond t v (getD was (at + e + (k - e)) 0)) (sym (ap (wordBit (a ∷ b ∷ c ∷ d ∷ [])) (sym y) ∙ word-column a b c d q x (k - e) (ex, lq) (omega arith))))
+        (N .here (k - e) (omega arith) ∙ ap (λ (t : Bool). cond t v (getD was (at + e + (k - e)) 0))
+        (sym (ap (wordBit (a ∷ b ∷ c ∷ d ∷ [])) (sym y) ∙ word-column a b c d q x (k - e) (ex, lq) (omega arith))))
 
 -- from row to row --------------------------------------------------------------------------------------------------------
 

@@ -5,7 +5,7 @@ use mathlib.Core.List.{List}
 use Prim.Native.Nat.{ℕ, _+_, _*_, _/_, _%_, _<_, _≤_}
 use lib.ListN.{length, getD}
 use Rattle.words.specs.Words.{wordBit, Within}
-use Rattle.planes.specs.Scratch.{Sizes, Ready, fresh, spot}
+use Rattle.planes.specs.Scratch.{Ready, fresh, spot}
 
 -- ahead has, for each row k, the first row from k on that is gone to, and h where there is none
 pub record Aheads (h : ℕ) (ahead : List ℕ) : Type 0 where

@@ -3,25 +3,25 @@ use mathlib.Core.Path.{_≡_, refl, sym, ap, ap₂, subst, _∙_}
 use mathlib.Core.Bool.{Bool, true, false, not, _&&_, _||_, cond}
 use mathlib.Core.List.{List}
 use mathlib.Core.Logic.{⊎-elim}
-use Prim.Native.Nat.{ℕ, suc, _+_, _-_, _*_, _/_, _%_, _<_, _≤_}
+use Prim.Native.Nat.{ℕ, _+_, _-_, _*_, _/_, _%_, _<_, _≤_}
 use native.Mathlib.Numerals.{add-one}
 use native.Mathlib.Omega.{arith}
 use native.Mathlib.Decide.{decLt}
-use borrow.Author.Tests.{eq-eqb, ne-eqb, lt-ltb, le-ltb}
+use borrow.Author.Tests.{eq-eqb, ne-eqb, lt-ltb}
 use lib.Dec.{ltb, eqb}
 use lib.ListN.{length, getD}
 use Rattle.rules.specs.Images.{Plane}
 use Rattle.rules.specs.Planning.{touch, touching, source, grown}
 use Rattle.laws.specs.Growing.{bounded}
-use Rattle.laws.specs.Tests.{split, bool-eq, clash, and-l, and-r, and-in, and-false, and-true, or-l, or-out, or-false, not-out}
+use Rattle.laws.specs.Tests.{split, clash, and-l, and-r, and-in, and-false, and-true, or-l, or-out, or-false, not-out}
 use Rattle.laws.specs.Waves.{grown-next}
 use Rattle.words.specs.Words.{wordBit}
-use Rattle.planes.specs.Scratch.{Sizes, Framed, Ready, seen, spot, fresh}
-use Rattle.planes.specs.PlaneLaws.{fresh-in, fresh-none, seen-is, pixel-row}
+use Rattle.planes.specs.Scratch.{Sizes, seen, spot, fresh}
+use Rattle.planes.specs.PlaneLaws.{fresh-in, fresh-none, seen-is}
 use Rattle.planes.specs.TouchLaws.{touching-same, fresh-seen}
-use Rattle.waves.specs.Rows.{Aheads, Sparse, Room, Upto, RowWave, WaveTo, Waving, Still}
-use Rattle.waves.specs.RowLaws.{gap-none, none-before, none-behind, fresh-same}
-use Rattle.waves.specs.Fronts.{Afloat, Waved, Ended, Rolled}
+use Rattle.waves.specs.Rows.{Room, Upto, RowWave, Waving, Still}
+use Rattle.waves.specs.RowLaws.{gap-none, none-behind, fresh-same}
+use Rattle.waves.specs.Fronts.{WavePlanes, Waved}
 
 -- a plane within others is room where they are
 pub room-within : (w h : ℕ) (ahead l m : List ℕ) → length m ≡ length l → Room w h ahead l → ((j : ℕ) → wordBit m j ≡ true → wordBit l j ≡ true) → Room w h ahead m
@@ -35,19 +35,23 @@ room-same w h ahead l m e R same = room-within w h ahead l m (e ∙ sym (R .read
 
 -- One wave more --------------------------------------------------------------------------------------------------------
 
-module _ (w h v : ℕ) (ahead from to' left left' got got' ring ring' : List ℕ) (A : Afloat w h ahead from left got ring)
+module _ (w h v : ℕ) (ahead from to' left left' got got' ring ring' : List ℕ) (A : WavePlanes w h ahead from left got ring)
     (S : Waving w h v from to' left left' got got' ring ring') where
   pub to-room : length to' ≡ 1610 → Room w h ahead to'
   to-room e = room-within w h ahead left to' (e ∙ sym (A .left-room .ready .long)) (A .left-room) (λ j u. fresh-in from left j (sym (S .to-is j) ∙ u))
 
-  pub afloat-next : length to' ≡ 1610 → length left' ≡ length left → length got' ≡ length got → length ring' ≡ length ring → Afloat w h ahead to' left' got' ring'
+  pub afloat-next : length to' ≡ 1610 → length left' ≡ length left → length got' ≡ length got → length ring' ≡ length ring → WavePlanes w h ahead to' left' got' ring'
   afloat-next et el eg er = record {
     sizes = A .sizes;
     aheads = A .aheads;
     front-ready = to-room et .ready;
     left-room = room-within w h ahead left left' el (A .left-room) (λ j u. and-l (wordBit left j) _ (sym (S .left-is j) ∙ u));
     got-room = record {
-      ready = record { long = eg ∙ A .got-room .ready .long; framed = λ j u. ⊎-elim (A .got-room .ready .framed j) (λ x. A .left-room .ready .framed j (fresh-in from left j x)) (or-out (wordBit got j) _ (sym (S .got-is j) ∙ u)) };
+      ready = record {
+        long = eg ∙ A .got-room .ready .long;
+        framed = λ j u. ⊎-elim (A .got-room .ready .framed j) (λ x. A .left-room .ready .framed j (fresh-in from left j x))
+            (or-out (wordBit got j) _ (sym (S .got-is j) ∙ u));
+      };
       sparse = λ k j a b d. S .got-is j ∙ ap₂ _||_ (A .got-room .sparse k j a b d) (fresh-none from left j (A .left-room .sparse k j a b d));
     };
     ring-long = er ∙ A .ring-long;
@@ -55,7 +59,7 @@ module _ (w h v : ℕ) (ahead from to' left left' got got' ring ring' : List ℕ
   }
 
   -- the old front has nothing of what is left either
-  pub afloat-old : length left' ≡ length left → length got' ≡ length got → length ring' ≡ length ring → length to' ≡ 1610 → Afloat w h ahead from left' got' ring'
+  pub afloat-old : length left' ≡ length left → length got' ≡ length got → length ring' ≡ length ring → length to' ≡ 1610 → WavePlanes w h ahead from left' got' ring'
   afloat-old el eg er et =
       let B = afloat-next et el eg er in
       record {
@@ -68,7 +72,7 @@ module _ (w h v : ℕ) (ahead from to' left left' got got' ring ring' : List ℕ
         apart = λ j a b. A .apart j (and-l (wordBit left j) _ (sym (S .left-is j) ∙ a)) b;
       }
 
-module _ (w h k : ℕ) (ahead from to' left left' got got' ring ring' : List ℕ) (A : Afloat w h ahead from left got ring)
+module _ (w h k : ℕ) (ahead from to' left left' got got' ring ring' : List ℕ) (A : WavePlanes w h ahead from left got ring)
     (S : Waving w h (k + 1) from to' left left' got got' ring ring') (long : length ring' ≡ length ring) (over seed : Plane) (W : Waved w h k over seed from left got ring) where
   at : ℕ → ℕ
   at p = spot (p / w) (p % w)
@@ -103,17 +107,20 @@ module _ (w h k : ℕ) (ahead from to' left left' got got' ring ring' : List ℕ
     fronts = λ p lp. seen-is w h (A .sizes) to' p ∙ S .to-is (spot (p / w) (p % w)) ∙ split (fresh from left (spot (p / w) (p % w)))
         (λ e. e ∙ sym (source-new p (ring-yes p lp e)))
         (λ e. e ∙ sym (source-old p (omega (arith, ring-no p lp e, small p lp))));
-    lefts = λ p lp. seen-is w h (A .sizes) left' p ∙ S .left-is (spot (p / w) (p % w)) ∙ ap (λ (b : Bool). b && not (fresh from left (spot (p / w) (p % w)))) (sym (seen-is w h (A .sizes) left p)) ∙ split (fresh from left (spot (p / w) (p % w)))
+    lefts = λ p lp. seen-is w h (A .sizes) left' p ∙ S .left-is (spot (p / w) (p % w)) ∙ ap (λ (b : Bool). b && not (fresh from left (spot (p / w) (p % w)))) (sym (seen-is w h (A .sizes) left p))
+        ∙ split (fresh from left (spot (p / w) (p % w)))
         (λ e. ap (λ (b : Bool). seen w left p && not b) e ∙ and-false (seen w left p)
         ∙ sym (ap (λ (b : Bool). over p && b) (ne-eqb (getD ring' p 0) 0 (λ (x : getD ring' p 0 ≡ 0). omega (arith, ring-yes p lp e))) ∙ and-false (over p)))
         (λ e. ap (λ (b : Bool). seen w left p && not b) e ∙ and-true (seen w left p) ∙ W .lefts p lp ∙ ap (λ (n : ℕ). over p && eqb n 0) (sym (ring-no p lp e)));
-    gots = λ p lp. seen-is w h (A .sizes) got' p ∙ S .got-is (spot (p / w) (p % w)) ∙ ap (λ (b : Bool). b || fresh from left (spot (p / w) (p % w))) (sym (seen-is w h (A .sizes) got p) ∙ W .gots p lp) ∙ split (fresh from left (spot (p / w) (p % w)))
+    gots = λ p lp. seen-is w h (A .sizes) got' p ∙ S .got-is (spot (p / w) (p % w))
+        ∙ ap (λ (b : Bool). b || fresh from left (spot (p / w) (p % w))) (sym (seen-is w h (A .sizes) got p) ∙ W .gots p lp) ∙ split (fresh from left (spot (p / w) (p % w)))
         (λ e. ap (λ (b : Bool). ltb 0 (getD ring p 0) || b) e ∙ Rattle.laws.specs.Tests.or-r (ltb 0 (getD ring p 0)) true refl ∙ sym (lt-ltb 0 (getD ring' p 0) (omega (arith, ring-yes p lp e))))
         (λ e. ap (λ (b : Bool). ltb 0 (getD ring p 0) || b) e ∙ or-false (ltb 0 (getD ring p 0)) ∙ ap (ltb 0) (sym (ring-no p lp e)));
   }
 
 -- the same pixels in another plane
-pub waved-same : (w h k : ℕ) → Sizes w h → (over seed : Plane) (front front' left got ring : List ℕ) → ((j : ℕ) → wordBit front' j ≡ wordBit front j) → Waved w h k over seed front left got ring → Waved w h k over seed front' left got ring
+pub waved-same : (w h k : ℕ) → Sizes w h → (over seed : Plane) (front front' left got ring : List ℕ) → ((j : ℕ) → wordBit front' j ≡ wordBit front j) → Waved w h k over seed front left got ring →
+    Waved w h k over seed front' left got ring
 waved-same w h k z over seed front front' left got ring e W = record {
   rings = W .rings;
   fronts = λ p lp. seen-is w h z front' p ∙ e (spot (p / w) (p % w)) ∙ sym (seen-is w h z front p) ∙ W .fronts p lp;
@@ -122,7 +129,8 @@ waved-same w h k z over seed front front' left got ring e W = record {
 }
 
 -- the rows so far have nothing new, or nothing more
-module _ (w h v y y' : ℕ) (new more : Bool) (ahead from to1 to2 left left1 left2 got1 got2 ring1 ring2 : List ℕ) (z : Sizes w h) (Rl : Room w h ahead left) (ly : y < h) (e : y' ≡ getD ahead (y + 1) 0)
+module _ (w h v y y' : ℕ) (new more : Bool) (ahead from to1 to2 left left1 left2 got1 got2 ring1 ring2 : List ℕ) (z : Sizes w h) (Rl : Room w h ahead left) (ly : y < h)
+    (e : y' ≡ getD ahead (y + 1) 0)
     (U : Upto y (λ j. wordBit left j && not (fresh from left j)) left left1)
     (S : RowWave w y v new more from to1 to2 left1 left2 got1 got2 ring1 ring2) where
   in-row : (g : ℕ → Bool) → ((c : ℕ) → c < 256 → g ((y + 33) * 320 + c) ≡ false) → (j : ℕ) → (y + 33) * 320 ≤ j → j < (y + 33) * 320 + 256 → g j ≡ false
@@ -137,7 +145,8 @@ module _ (w h v y y' : ℕ) (new more : Bool) (ahead from to1 to2 left left1 lef
     ]
   ]
 
-  pub done-so-far : more ≡ false → ((j : ℕ) → j < (y + 33) * 320 → (wordBit left j && not (fresh from left j)) ≡ false) → (j : ℕ) → j < (y' + 33) * 320 → (wordBit left j && not (fresh from left j)) ≡ false
+  pub done-so-far : more ≡ false → ((j : ℕ) → j < (y + 33) * 320 → (wordBit left j && not (fresh from left j)) ≡ false) → (j : ℕ) → j < (y' + 33) * 320 →
+      (wordBit left j && not (fresh from left j)) ≡ false
   done-so-far m f j l = elim (decLt j ((y + 33) * 320)) [
     | yes a ↦ f j a
     | no a ↦ elim (decLt j ((y + 33) * 320 + 256)) [
@@ -149,14 +158,14 @@ module _ (w h v y y' : ℕ) (new more : Bool) (ahead from to1 to2 left left1 lef
   ]
 
 -- nothing is new, or nothing is left: no wave goes on
-pub still-new : (w h y v : ℕ) (ahead from to' left left' got got' ring ring' : List ℕ) → Afloat w h ahead from left got ring → Waving w h v from to' left left' got got' ring ring' → h ≤ y
+pub still-new : (w h y v : ℕ) (ahead from to' left left' got got' ring ring' : List ℕ) → WavePlanes w h ahead from left got ring → Waving w h v from to' left left' got got' ring ring' → h ≤ y
     → ((j : ℕ) → j < (y + 33) * 320 → fresh from left j ≡ false) → Still to' left'
 still-new w h y v ahead from to' left left' got got' ring ring' A S hy f i j a b = clash (sym (S .to-is i) ∙ a) (elim (decLt i ((y + 33) * 320)) [
   | yes l ↦ f i l
   | no l ↦ fresh-none from left i (none-behind w h i left (A .sizes) (A .left-room .ready) (omega arith))
 ])
 
-pub still-left : (w h y v : ℕ) (ahead from to' left left' got got' ring ring' : List ℕ) → Afloat w h ahead from left got ring → Waving w h v from to' left left' got got' ring ring' → h ≤ y
+pub still-left : (w h y v : ℕ) (ahead from to' left left' got got' ring ring' : List ℕ) → WavePlanes w h ahead from left got ring → Waving w h v from to' left left' got got' ring ring' → h ≤ y
     → ((j : ℕ) → j < (y + 33) * 320 → (wordBit left j && not (fresh from left j)) ≡ false) → Still to' left'
 still-left w h y v ahead from to' left left' got got' ring ring' A S hy f i j a b = clash (sym (S .left-is j) ∙ b) (elim (decLt j ((y + 33) * 320)) [
   | yes l ↦ f j l
@@ -164,12 +173,14 @@ still-left w h y v ahead from to' left left' got got' ring ring' A S hy f i j a 
 ])
 
 -- one wave more, in numbers
-pub waved-on : (w h k m v : ℕ) (ahead from to' left left' got got' ring ring' : List ℕ) → v ≡ k + 1 → m ≡ k + 1 → Afloat w h ahead from left got ring → Waving w h v from to' left left' got got' ring ring'
-    → Afloat w h ahead to' left' got' ring' → (over seed : Plane) → Waved w h k over seed from left got ring → Waved w h m over seed to' left' got' ring'
+pub waved-on : (w h k m v : ℕ) (ahead from to' left left' got got' ring ring' : List ℕ) → v ≡ k + 1 → m ≡ k + 1 → WavePlanes w h ahead from left got ring →
+    Waving w h v from to' left left' got got' ring ring'
+    → WavePlanes w h ahead to' left' got' ring' → (over seed : Plane) → Waved w h k over seed from left got ring → Waved w h m over seed to' left' got' ring'
 waved-on w h k m v ahead from to' left left' got got' ring ring' ev em A S B over seed W =
     rw em (waved-next w h k ahead from to' left left' got got' ring ring' A (rw ev at S) (B .ring-long ∙ sym (A .ring-long)) over seed W)
 
-pub afloat-same : (w h : ℕ) (ahead front front' left got ring : List ℕ) → length front' ≡ 1610 → ((j : ℕ) → wordBit front' j ≡ wordBit front j) → Afloat w h ahead front left got ring → Afloat w h ahead front' left got ring
+pub afloat-same : (w h : ℕ) (ahead front front' left got ring : List ℕ) → length front' ≡ 1610 → ((j : ℕ) → wordBit front' j ≡ wordBit front j) → WavePlanes w h ahead front left got ring →
+    WavePlanes w h ahead front' left got ring
 afloat-same w h ahead front front' left got ring e same A = record {
   sizes = A .sizes;
   aheads = A .aheads;

@@ -72,7 +72,8 @@ pub fn wave_row(
 ) -> Gone
     requires { ⌜ (length (now from) ≡ 1610) × (length (now to) ≡ 1610) × (length (now left) ≡ 1610) × (length (now got) ≡ 1610) × (y < 256) × (w ≤ 256) × Ones (now ones) ⌝ }
     requires { ⌜ ((c : ℕ) → c < 256 → wordBit (now left) ((y + 33) * 320 + c) ≡ true → y * w + c < length (now ring)) ⌝ }
-    ensures { λ r. ⌜ RowWave w y v (r .new) (r .more) (now (from .entry)) (now (to .entry)) (now (to .exit)) (now (left .entry)) (now (left .exit)) (now (got .entry)) (now (got .exit)) (now (ring .entry)) (now (ring .exit)) ⌝ }
+    ensures { λ r. ⌜ RowWave w y v (r .new) (r .more) (now (from .entry)) (now (to .entry)) (now (to .exit)) (now (left .entry)) (now (left .exit)) (now (got .entry)) (now (got .exit))
+        (now (ring .entry)) (now (ring .exit)) ⌝ }
 {
     let k = y + 33;
     let own = planes::rows::row(left, k);

@@ -5,18 +5,12 @@ ghost use Prim.Native.Nat.{ℕ, _+_, _*_, _<_, _≤_};
 ghost use Rattle.words.specs.Words.{Ones, wordBit};
 ghost use Rattle.planes.specs.Scratch.{Sizes, Ready};
 ghost use Rattle.waves.specs.Rows.{Aheads, Room, Waving, Still};
-ghost use Rattle.waves.specs.Fronts.{Afloat, Rolled};
+ghost use Rattle.waves.specs.Fronts.{WavePlanes, WavesMade};
 
 fn one(b: bool) -> usize
     ensures { λ r. ⌜ (r ≤ 1) × (r ≡ 0 → b ≡ false) ⌝ }
 {
     if b { 1 } else { 0 }
-}
-
-fn either(a: bool, b: bool) -> bool
-    ensures { λ r. ⌜ (r ≡ false → (a ≡ false) × (b ≡ false)) ⌝ }
-{
-    if a { true } else { b }
 }
 
 // A wave: what is left and touches `from` gets ring v. Answers how many rows have new pixels, and 0 where no wave goes on.
@@ -32,9 +26,9 @@ pub fn wave(
     v: u16,
     ones: &[u16],
 ) -> usize
-    requires { ⌜ Afloat w h (now ahead) (now from) (now left) (now got) (now ring) ⌝ }
+    requires { ⌜ WavePlanes w h (now ahead) (now from) (now left) (now got) (now ring) ⌝ }
     requires { ⌜ Room w h (now ahead) (now to) × Ones (now ones) ⌝ }
-    ensures { λ _. ⌜ Afloat w h (now (ahead .entry)) (now (to .exit)) (now (left .exit)) (now (got .exit)) (now (ring .exit)) ⌝ }
+    ensures { λ _. ⌜ WavePlanes w h (now (ahead .entry)) (now (to .exit)) (now (left .exit)) (now (got .exit)) (now (ring .exit)) ⌝ }
     ensures { λ _. ⌜ Room w h (now (ahead .entry)) (now (to .exit)) ⌝ }
     ensures { λ _. ⌜ Waving w h v (now (from .entry)) (now (to .exit)) (now (left .entry)) (now (left .exit)) (now (got .entry)) (now (got .exit)) (now (ring .entry)) (now (ring .exit)) ⌝ }
     ensures { λ r. ⌜ (r ≡ 0 → Still (now (to .exit)) (now (left .exit))) ⌝ }
@@ -45,7 +39,7 @@ pub fn wave(
     while y < h {
         let gone = crate::rows::wave_row(ring, from, to, left, got, w, y, v, ones);
         rows += one(gone.new);
-        more = either(more, gone.more);
+        more = numbers::either(more, gone.more);
         y = ahead[y + 1];
     }
     if more {
@@ -82,12 +76,13 @@ pub fn waves(
     least: usize,
     ones: &[u16],
 ) -> usize
-    requires { ⌜ Afloat w h (now ahead) (now front) (now left) (now got) (now ring) ⌝ }
+    requires { ⌜ WavePlanes w h (now ahead) (now front) (now left) (now got) (now ring) ⌝ }
     requires { ⌜ Room w h (now ahead) (now front) × Room w h (now ahead) (now next) ⌝ }
     requires { ⌜ (0 < k) × (k ≤ t) × (t < 65536) × Ones (now ones) ⌝ }
-    ensures { λ _. ⌜ Afloat w h (now (ahead .entry)) (now (front .exit)) (now (left .exit)) (now (got .exit)) (now (ring .exit)) ⌝ }
+    ensures { λ _. ⌜ WavePlanes w h (now (ahead .entry)) (now (front .exit)) (now (left .exit)) (now (got .exit)) (now (ring .exit)) ⌝ }
     ensures { λ _. ⌜ Room w h (now (ahead .entry)) (now (front .exit)) × Room w h (now (ahead .entry)) (now (next .exit)) ⌝ }
-    ensures { λ r. ⌜ Rolled w h k t r (now (front .entry)) (now (front .exit)) (now (left .entry)) (now (left .exit)) (now (got .entry)) (now (got .exit)) (now (ring .entry)) (now (ring .exit)) ⌝ }
+    ensures { λ r. ⌜ WavesMade w h k t r (now (front .entry)) (now (front .exit)) (now (left .entry)) (now (left .exit)) (now (got .entry)) (now (got .exit)) (now (ring .entry))
+        (now (ring .exit)) ⌝ }
     ensures { λ r. ⌜ r ≤ t ⌝ }
 {
     let mut n = k;

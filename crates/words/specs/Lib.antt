@@ -4,5 +4,6 @@ pub mod Words
 pub mod Digits
 pub mod WordLaws
 pub mod RowLaws
+pub mod CountLaws
 pub mod SingleLaws
 pub mod OneLaws

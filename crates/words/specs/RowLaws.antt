@@ -2,18 +2,17 @@
 use mathlib.Core.Path.{_≡_, refl, sym, ap, ap₂, subst, _∙_}
 use mathlib.Core.Bool.{Bool, true, false, not, _&&_, _||_}
 use mathlib.Core.List.{List, [], _∷_}
-use mathlib.Core.Logic.{_⊎_, inl, inr, ⊎-elim}
-use Prim.Native.Nat.{ℕ, zero, suc, _+_, _-_, _*_, _/_, _%_, _^_, _<_, _≤_}
+use Prim.Native.Nat.{ℕ, suc, min, _+_, _-_, _*_, _/_, _%_, _^_, _<_, _≤_}
 use native.Mathlib.Omega.{arith}
-use native.Mathlib.Decide.{decLt, decLe, ℕ-discrete}
+use native.Mathlib.Decide.{decLt, decLe}
 use borrow.Author.Tests.{lt-ltb, le-ltb, le-leb, lt-leb, leb-true}
 use lib.Bits.{bitAnd, bitOr}
 use lib.Dec.{leb, ltb}
 use lib.ListN.{length, getD, set, List·getD-eq-default}
-use Rattle.laws.specs.Tests.{split, clash, and-l, and-r, and-in, or-l, or-r, or-cases}
+use Rattle.laws.specs.Tests.{clash, and-l, and-r, and-in, or-l, or-r, or-cases}
 use Rattle.image.specs.Bits.{or-none}
 use Rattle.image.specs.Scratch.{bitOf}
-use Rattle.words.specs.Words.{place, flat, wordBit, Digits, rowPart, rowAt, beside, Widened, Within}
+use Rattle.words.specs.Words.{place, flat, bitOfWord, wordBit, Digits, rowPart, rowAt, beside, Widened, Within, WordPart}
 use Rattle.words.specs.Digits.{place-zero, digits-zero, digits-and, digits-or, digits-not, digits-across}
 use Rattle.words.specs.WordLaws.{flat-here, digits-here, digits-same, Filling, filling-from, filling-next, filling-all}
 
@@ -132,6 +131,37 @@ row-put l i a b c d room la lb lc ld =
     at : (q x : ℕ) → q < 4 → Digits 64 x (q * 64) (wordBit (a ∷ b ∷ c ∷ d ∷ [])) → Digits 64 x ((i + q) * 64) (λ j. wordBit (a ∷ b ∷ c ∷ d ∷ []) (j - i * 64))
     at q x lq = digits-same 64 x (q * 64) ((i + q) * 64) (wordBit (a ∷ b ∷ c ∷ d ∷ [])) (λ j. wordBit (a ∷ b ∷ c ∷ d ∷ []) (j - i * 64))
         (λ k h. ap (wordBit (a ∷ b ∷ c ∷ d ∷ [])) (omega arith))
+
+pub within-none : (a b : ℕ) (g was : ℕ → Bool) → a ≡ b → Within a b g was was
+within-none a b g was e = record { inner = λ j u v. absurd (omega arith); before = λ j u. refl; behind = λ j u. refl }
+
+-- a row of n bytes that is written from byte `at` on, word by word
+module _ (l : List ℕ) (at n : ℕ) where
+  abbrev Written : ℕ → (ℕ → Bool) → (ℕ → Bool) → Type 0
+  Written m = Within (at * 8) ((at + min n m) * 8) (λ j. wordBit l (j - at * 8))
+
+  word-written : (q x : ℕ) (was mid now : ℕ → Bool) → getD l q 0 ≡ x → WordPart at n q x mid now → Written (q * 8) was mid → Written (q * 8 + 8) was now
+  unfolding bitOfWord
+  word-written q x was mid now ex W T = record {
+    inner = λ j u v. elim (decLt j ((at + min n (q * 8)) * 8)) [
+      | yes h ↦ W .before j h ∙ T .inner j u h
+      | no h ↦
+          let k : ℕ = j - (at + q * 8) * 8 in
+          let z : j - at * 8 ≡ q * 64 + k = omega arith in
+          W .inner j (omega arith) v ∙ sym (ap (wordBit l) z ∙ flat-here 64 l q (63 - k) k (omega arith) ∙ ap (λ (i : ℕ). place i (63 - k)) ex)
+    ];
+    before = λ j u. W .before j (omega arith) ∙ T .before j u;
+    behind = λ j u. W .behind j u ∙ T .behind j (omega arith);
+  }
+
+pub row-written : (a b c d at n : ℕ) (was f g h now : ℕ → Bool) → n ≤ 32 → WordPart at n 0 a was f → WordPart at n 1 b f g → WordPart at n 2 c g h → WordPart at n 3 d h now
+    → Within (at * 8) ((at + n) * 8) (λ j. wordBit (a ∷ b ∷ c ∷ d ∷ []) (j - at * 8)) was now
+row-written a b c d at n was f g h now ln A B C D =
+    let l : List ℕ = a ∷ b ∷ c ∷ d ∷ [] in
+    let e : min n 32 ≡ n = omega arith in
+    rw e at
+    (word-written l at n 3 d was h now refl D (word-written l at n 2 c was g h refl C (word-written l at n 1 b was f g refl B
+    (word-written l at n 0 a was was f refl A (within-none (at * 8) ((at + min n 0) * 8) (λ j. wordBit l (j - at * 8)) was (omega arith))))))
 
 -- widening ---------------------------------------------------------------------------------------------------------------
 

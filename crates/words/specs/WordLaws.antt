@@ -1,6 +1,6 @@
 -- Laws of lists of bytes and of words: their bits, what each store of a loop adds, what the whole loop leaves; words read from bytes.
 use mathlib.Core.Path.{_≡_, refl, sym, ap, ap₂, _∙_}
-use mathlib.Core.Bool.{Bool, true, false, _&&_}
+use mathlib.Core.Bool.{Bool, false}
 use mathlib.Core.List.{List}
 use Prim.Native.Nat.{ℕ, suc, _+_, _-_, _*_, _/_, _%_, _^_, _<_, _≤_}
 use native.Mathlib.Nat.{div-add-mod', mod-lt, le-div-iff-mul-le, div-lt-iff-lt-mul, mul-one, add-mul, mul-assoc}
@@ -15,7 +15,7 @@ use lib.Pow.{shl-exact, shl-lt, pow-add}
 use lib.Seq.{getD-set-same, getD-set-other}
 use Rattle.rules.specs.Images.{bitAt}
 use Rattle.image.specs.Scratch.{bitOf}
-use Rattle.words.specs.Words.{place, bitOfWord, flat, wordBit, Digits, rowPart, Within}
+use Rattle.words.specs.Words.{place, bitOfWord, flat, Digits, rowPart, Within}
 use Rattle.words.specs.Digits.{place-shr, place-mod-below, digits-none, digits-zero, digits-join}
 
 pub flat-here : (w : ℕ) (l : List ℕ) (i e k : ℕ) → e + suc k ≡ w → flat w l (i * w + k) ≡ place (getD l i 0) e
@@ -29,11 +29,6 @@ flat-here w l i e k z =
 pub flat-bytes : (l : List ℕ) (j : ℕ) → flat 8 l j ≡ bitOf l j
 unfolding flat place bitOf bitAt
 flat-bytes l j = refl
-
--- what digits say of a word's bits
-pub word-bits : (x a : ℕ) (f : ℕ → Bool) → Digits 64 x a f → (k : ℕ) → k < 64 → bitOfWord x k ≡ f (a + k)
-unfolding bitOfWord
-word-bits x a f X k l = X .bits (63 - k) k (omega arith)
 
 -- the element itself
 pub digits-here : (w : ℕ) (l : List ℕ) (i : ℕ) → getD l i 0 < 2 ^ w → Digits w (getD l i 0) (i * w) (flat w l)

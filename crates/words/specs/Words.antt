@@ -1,8 +1,8 @@
 -- Words of 64 bits, the highest bit leftmost, and rows of four of them.
 use mathlib.Core.Path.{_≡_}
-use mathlib.Core.Bool.{Bool, true, false, not, _&&_, _||_, cond}
+use mathlib.Core.Bool.{Bool, true, _&&_, _||_, cond}
 use mathlib.Core.List.{List, [], _∷_}
-use Prim.Native.Nat.{ℕ, suc, _+_, _-_, _*_, _/_, _%_, _^_, _<_, _≤_}
+use Prim.Native.Nat.{ℕ, suc, min, _+_, _-_, _*_, _/_, _%_, _^_, _<_, _≤_}
 use lib.Count.{trailingZeros}
 use lib.Dec.{eqb, leb, ltb}
 use lib.ListN.{length, getD}
@@ -58,6 +58,10 @@ pub record Within (a b : ℕ) (g was now : ℕ → Bool) : Type 0 where
   pub inner : (j : ℕ) → a ≤ j → j < b → now j ≡ g j
   pub before : (j : ℕ) → j < a → now j ≡ was j
   pub behind : (j : ℕ) → b ≤ j → now j ≡ was j
+
+-- those bytes of word q, which is x, that a row of n bytes has, written to their places in the row from byte `at` on
+abbrev pub WordPart : ℕ → ℕ → ℕ → ℕ → (ℕ → Bool) → (ℕ → Bool) → Type 0
+WordPart at n q x = Within ((at + min n (q * 8)) * 8) ((at + min n (q * 8 + 8)) * 8) (λ j. bitOfWord x (j - (at + q * 8) * 8))
 
 -- the last bit of x that is set
 unfoldable pub lastBit : ℕ → ℕ

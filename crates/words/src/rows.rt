@@ -5,9 +5,12 @@ use rules::Pixels;
 ghost use mathlib.Core.Path.{_≡_};
 ghost use mathlib.Core.List.{[], _∷_};
 ghost use mathlib.Core.Bool.{Bool, false, not, _&&_, _||_};
-ghost use Prim.Native.Nat.{ℕ, min, _+_, _-_, _*_, _<_, _≤_};
+ghost use Prim.Native.Nat.{ℕ, _+_, _-_, _*_, _^_, _<_, _≤_};
+ghost use lib.Count.{ones};
 ghost use lib.ListN.{length};
-ghost use Rattle.words.specs.Words.{Digits, wordBit, column, rowPart, rowAt, beside, Widened, Within};
+ghost use Rattle.rules.specs.Tools.{count};
+ghost use Rattle.image.specs.Scratch.{bitOf};
+ghost use Rattle.words.specs.Words.{Digits, WordPart, wordBit, column, rowPart, rowAt, beside, Widened, Within};
 
 // The row without a pixel.
 pub fn none() -> Row
@@ -86,6 +89,41 @@ pub fn read_two(low: &[u8], up: &[u8], at: usize, n: usize) -> Two
     Two { low: l, up: u }
 }
 
+// Those bytes of word q that a row of n bytes has.
+fn write_word(out: &mut [u8], at: usize, n: usize, q: usize, x: u64)
+    requires { ⌜ (at + n ≤ length (now out)) × (q < 4) ⌝ }
+    ensures { λ _. ⌜ WordPart at n q x (bitOf (now (out .entry))) (bitOf (now (out .exit))) ⌝ }
+{
+    let b = q * 8;
+    if b + 8 <= n {
+        crate::bytes::put(out, at + b, 8, x);
+        return;
+    }
+    if n <= b {
+        return;
+    }
+    crate::bytes::put(out, at + b, n - b, x);
+}
+
+fn write_words(out: &mut [u8], at: usize, n: usize, a: u64, b: u64, c: u64, d: u64)
+    requires { ⌜ (n ≤ 32) × (at + n ≤ length (now out)) ⌝ }
+    ensures { λ _. ⌜ Within (at * 8) ((at + n) * 8) (λ j. wordBit (a ∷ b ∷ c ∷ d ∷ []) (j - at * 8)) (bitOf (now (out .entry))) (bitOf (now (out .exit))) ⌝ }
+{
+    write_word(out, at, n, 0, a);
+    write_word(out, at, n, 1, b);
+    write_word(out, at, n, 2, c);
+    write_word(out, at, n, 3, d);
+}
+
+// The first n bytes of a row, to `at` and behind. It has no case of its own for 32 bytes: where stores of words follow each other with no
+// test between, the compiler leaves them as single bytes.
+pub fn write(out: &mut [u8], at: usize, n: usize, x: Row)
+    requires { ⌜ (n ≤ 32) × (at + n ≤ length (now out)) ⌝ }
+    ensures { λ _. ⌜ Within (at * 8) ((at + n) * 8) (λ j. column x (j - at * 8)) (bitOf (now (out .entry))) (bitOf (now (out .exit))) ⌝ }
+{
+    write_words(out, at, n, x.a, x.b, x.c, x.d);
+}
+
 // The row that stands at word i.
 pub fn get(l: &[u64], i: usize) -> Row
     requires { ⌜ i + 4 ≤ length (now l) ⌝ }
@@ -158,6 +196,20 @@ pub fn any(x: Row) -> bool
     x.a | x.b | x.c | x.d != 0
 }
 
+// How many bits of a word are set. That it is a word is said for `count`, which has only the row at hand.
+fn ones(x: u64) -> usize
+    ensures { λ r. ⌜ (r ≡ ones x) × (r ≤ 64) × (x < 2 ^ 64) ⌝ }
+{
+    u64::count_ones(x) as usize
+}
+
+// How many pixels there are.
+pub fn count(x: Row) -> usize
+    ensures { λ r. ⌜ r ≡ count 256 (column x) ⌝ }
+{
+    ones(x.a) + ones(x.b) + ones(x.c) + ones(x.d)
+}
+
 // The word m between l and n: each bit, and those s columns beside it.
 pub fn spread(l: u64, m: u64, n: u64, s: usize) -> u64
     requires { ⌜ (0 < s) × (s < 64) ⌝ }
@@ -186,12 +238,6 @@ pub fn wide(x: Row, s: Pixels) -> Row
     wide_words(x.a, x.b, x.c, x.d, s.0)
 }
 
-fn lesser(a: usize, b: usize) -> usize
-    ensures { λ r. ⌜ r ≡ min a b ⌝ }
-{
-    if a < b { a } else { b }
-}
-
 // The row `by` columns wider to each side. A step is at most what was widened before and one more: a pixel at the edge of the image has
 // no more columns beside it, and a longer step leaves a gap there.
 pub fn widen(x: Row, by: Pixels) -> Row
@@ -202,7 +248,7 @@ pub fn widen(x: Row, by: Pixels) -> Row
     let mut r = x;
     let mut done: usize = 0;
     while done < n {
-        let s = lesser(done + 1, n - done);
+        let s = numbers::lesser(done + 1, n - done);
         r = wide(r, Pixels(s));
         done += s;
     }

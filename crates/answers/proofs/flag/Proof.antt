@@ -1,7 +1,4 @@
-use mathlib.Core.Path.{sym}
 use Rattle.rules.specs.Tools.{bit}
-use native.Mathlib.Omega.{arith}
-use borrow.Author.Needs.{needs}
 use Rattle.answers.proofs.flag.Statement.{statement}
 use Rattle.answers.proofs.flag.Tie as tie
 
@@ -14,4 +11,6 @@ unfolding bit
 returns-2 c = simp (c .if1 .left)
 
 pub flag-spec : {M : Type 1} → statement M
-flag-spec = tie.close (tie.spec returns returns-2)
+flag-spec =
+    tie.close
+    (tie.spec returns returns-2)

@@ -1,12 +1,9 @@
-use mathlib.Core.Path.{_≡_, refl, sym, ap, _∙_}
-use native.Mathlib.Omega.{arith}
 use borrow.Author.Needs.{needs}
 use Rattle.answers.proofs.pack_reached.Statement.{statement}
 use Rattle.answers.proofs.pack_reached.Tie as tie
 
-returns : tie.Need-returns
-returns c = rw (c .before .before .r .given .1) (c .above .ensures)
-
 pub pack-reached-spec : {M : Type 1} → statement M
 pack-reached-spec =
-    tie.close (tie.spec (λ c. search needs) (λ c κs. search needs) (λ c. search needs) (λ c κs. search needs) returns (λ c. search needs))
+    tie.close
+    (tie.spec (λ c. search needs) (λ c κs. search needs) (λ c. search needs) (λ c κs. search needs)
+    (λ c. rw (c .before .before .r .given .1) (c .above .ensures)) (λ c. search needs))

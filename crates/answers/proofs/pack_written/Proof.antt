@@ -1,12 +1,9 @@
-use mathlib.Core.Path.{_≡_, refl, sym, ap, _∙_}
-use native.Mathlib.Omega.{arith}
 use borrow.Author.Needs.{needs}
 use Rattle.answers.proofs.pack_written.Statement.{statement}
 use Rattle.answers.proofs.pack_written.Tie as tie
 
-returns : tie.Need-returns
-returns c = rw (c .before .before .w .given .1) (c .above .ensures)
-
 pub pack-written-spec : {M : Type 1} → statement M
 pack-written-spec =
-    tie.close (tie.spec (λ c. search needs) (λ c κs. search needs) (λ c. search needs) (λ c κs. search needs) returns (λ c. search needs))
+    tie.close
+    (tie.spec (λ c. search needs) (λ c κs. search needs) (λ c. search needs) (λ c κs. search needs)
+    (λ c. rw (c .before .before .w .given .1) (c .above .ensures)) (λ c. search needs))

@@ -13,7 +13,13 @@ use Rattle.job.proofs.copy_rings.Tie as tie
 
 returns : tie.Need-returns
 unfolding copyAnswer copyRings
-returns c = record { answer = says-no Copied Refused (c .before .copy-refusal .ensures) (c .if1 .taken); rings = says-no (ringsStored (now (c .before .before .before .before .args .file))) (λ k. now (c .before .before .before .before .args .rings)) (c .before .copy-refusal .ensures) (c .if1 .taken) }
+returns c =
+    let b4 = c .before .before .before .before in
+    record {
+      answer = says-no Copied Refused (c .before .copy-refusal .ensures) (c .if1 .taken);
+      rings = says-no (ringsStored (now (b4 .args .file))) (λ k. now (b4 .args .rings))
+          (c .before .copy-refusal .ensures) (c .if1 .taken);
+    }
 
 layout-requires : tie.Need-layout-requires
 layout-requires c κs = copying _ _ (sym (c .before .copy-refusal .ensures) ∙ c .if1 .left) .accepted
@@ -26,10 +32,11 @@ get16s-requires c κs =
 returns-2 : tie.Need-returns-2
 unfolding copyAnswer copyRings
 returns-2 c =
-    let v = copying _ _ (sym (c .before .before .before .before .before .before .copy-refusal .ensures) ∙ c .before .before .before .before .before .if1 .left) in record {
-      answer = says-yes Copied Refused (c .before .before .before .before .before .before .copy-refusal .ensures) (c .before .before .before .before .before .if1 .left) refl;
-      rings = says-yes (ringsStored (now (c .before .before .before .before .before .before .before .before .before .args .file))) (λ k. now (c .before .before .before .before .before .before .before .before .before .args .rings)) (c .before .before .before .before .before .before .copy-refusal .ensures) (c .before .before .before .before .before .if1 .left)
-          (c .before .before .get16s .ensures ∙ ap (λ (l : Layout). get16s (now (c .before .before .before .before .before .before .before .before .before .args .file)) (l .rings) (length (now (c .before .before .before .before .before .before .before .before .before .args .rings)))) (c .before .before .before .before .layout .ensures) ∙ v .all);
+    let b4 = c .before .before .before .before in let b5 = b4 .before in let b6 = b5 .before in let b9 = b6 .before .before .before in let args = b9 .args in
+    let v = copying _ _ (sym (b6 .copy-refusal .ensures) ∙ b5 .if1 .left) in record {
+      answer = says-yes Copied Refused (b6 .copy-refusal .ensures) (b5 .if1 .left) refl;
+      rings = says-yes (ringsStored (now (args .file))) (λ k. now (args .rings)) (b6 .copy-refusal .ensures) (b5 .if1 .left)
+          (c .before .before .get16s .ensures ∙ ap (λ (l : Layout). get16s (now (args .file)) (l .rings) (length (now (args .rings)))) (b4 .layout .ensures) ∙ v .all);
     }
 
 pub copy-rings-spec : {M : Type 1} → statement M

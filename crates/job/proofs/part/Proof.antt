@@ -12,17 +12,22 @@ use Rattle.job.proofs.part.Tie as tie
 
 returns : tie.Need-returns
 unfolding partAnswer
-returns c = record { stretch = says-no (partIn (now (c .before .before .before .before .args .file))) (λ k. []) (c .before .before .read-refusal .ensures) (c .before .if1 .taken) }
+returns c =
+    let b4 = c .before .before .before .before in
+    record { stretch = says-no (partIn (now (b4 .args .file))) (λ k. []) (c .before .before .read-refusal .ensures) (c .before .if1 .taken) }
 
 settings-in-requires : tie.Need-settings-in-requires
 settings-in-requires c κs = head-whole _ (sym (c .before .read-refusal .ensures) ∙ c .if1 .left)
 
 part-in-requires : tie.Need-part-in-requires
-part-in-requires c κs = let b = behind _ _ (sym (c .before .before .read-refusal .ensures) ∙ c .before .if1 .left) (c .settings-in .ensures) in (b .fine, c .settings-in .ensures, omega (arith, b .count))
+part-in-requires c κs = let b = behind _ _ (sym (c .before .before .read-refusal .ensures) ∙ c .before .if1 .left) (c .settings-in .ensures) in
+    (b .fine, c .settings-in .ensures, omega (arith, b .count))
 
 returns-2 : tie.Need-returns-2
 unfolding partAnswer
-returns-2 c = record { stretch = says-yes (partIn (now (c .before .before .before .before .before .args .file))) (λ k. []) (c .before .before .before .read-refusal .ensures) (c .before .before .if1 .left) (c .part-in .ensures) }
+returns-2 c =
+    let b3 = c .before .before .before in let b5 = b3 .before .before in
+    record { stretch = says-yes (partIn (now (b5 .args .file))) (λ k. []) (b3 .read-refusal .ensures) (c .before .before .if1 .left) (c .part-in .ensures) }
 
 pub part-spec : {M : Type 1} → statement M
 part-spec =

@@ -15,4 +15,6 @@ unfolding readAnswer
 returns-2 c = record { answer = says-yes _ Refused (c .before .before .read-refusal .ensures) (c .before .if1 .left) (ap Job (c .layout .ensures)) }
 
 pub read-spec : {M : Type 1} → statement M
-read-spec = tie.close (tie.spec (λ c κs. search needs) returns (λ c κs. search needs) returns-2)
+read-spec =
+    tie.close
+    (tie.spec (λ c κs. search needs) returns (λ c κs. search needs) returns-2)

@@ -11,7 +11,9 @@ use Rattle.job.proofs.support.Tie as tie
 
 returns : tie.Need-returns
 unfolding supportAnswer
-returns c = record { stretch = says-no (supportIn (now (c .before .before .before .before .args .file))) (λ k. []) (c .before .before .read-refusal .ensures) (c .before .if1 .taken) }
+returns c =
+    let b4 = c .before .before .before .before in
+    record { stretch = says-no (supportIn (now (b4 .args .file))) (λ k. []) (c .before .before .read-refusal .ensures) (c .before .if1 .taken) }
 
 settings-in-requires : tie.Need-settings-in-requires
 settings-in-requires c κs = head-whole _ (sym (c .before .read-refusal .ensures) ∙ c .if1 .left)
@@ -20,11 +22,15 @@ stored-in-requires : tie.Need-stored-in-requires
 stored-in-requires c κs = let b = behind _ _ (sym (c .before .before .read-refusal .ensures) ∙ c .before .if1 .left) (c .settings-in .ensures) in (b .fine, b .count)
 
 support-in-requires : tie.Need-support-in-requires
-support-in-requires c κs = stored-accepted _ _ _ (c .stored-in .ensures) (sym (c .before .before .before .read-refusal .ensures) ∙ c .before .before .if1 .left) (c .before .settings-in .ensures)
+support-in-requires c κs =
+    let b3 = c .before .before .before in
+    stored-accepted _ _ _ (c .stored-in .ensures) (sym (b3 .read-refusal .ensures) ∙ c .before .before .if1 .left) (c .before .settings-in .ensures)
 
 returns-2 : tie.Need-returns-2
 unfolding supportAnswer
-returns-2 c = record { stretch = says-yes (supportIn (now (c .before .before .before .before .before .before .args .file))) (λ k. []) (c .before .before .before .before .read-refusal .ensures) (c .before .before .before .if1 .left) (c .support-in .ensures) }
+returns-2 c =
+    let b3 = c .before .before .before in let b4 = b3 .before in let b6 = b4 .before .before in
+    record { stretch = says-yes (supportIn (now (b6 .args .file))) (λ k. []) (b4 .read-refusal .ensures) (b3 .if1 .left) (c .support-in .ensures) }
 
 pub support-spec : {M : Type 1} → statement M
 support-spec =

@@ -11,20 +11,35 @@ use Rattle.job.proofs.write.Tie as tie
 
 returns : tie.Need-returns
 unfolding writeAnswer writeTo
-returns c = record { answer = says-no _ Refused (c .before .write-refusal .ensures) (c .if1 .taken); destination = says-no _ (λ k. now (c .before .before .before .before .before .before .args .out)) (c .before .write-refusal .ensures) (c .if1 .taken) }
+returns c =
+    let b6 = c .before .before .before .before .before .before in
+    record {
+      answer = says-no _ Refused (c .before .write-refusal .ensures) (c .if1 .taken);
+      destination = says-no _ (λ k. now (b6 .args .out)) (c .before .write-refusal .ensures)
+          (c .if1 .taken);
+    }
 
 put-job-requires : tie.Need-put-job-requires
 put-job-requires c κs = writable-exactly _ _ .0 (sym (c .before .before .write-refusal .ensures) ∙ c .before .if1 .left)
 
 stored-rows-requires : tie.Need-stored-rows-requires
-stored-rows-requires c κs = writable-exactly _ _ .0 (sym (c .before .before .before .before .before .write-refusal .ensures) ∙ c .before .before .before .before .if1 .left) .0 .settings
+stored-rows-requires c κs =
+    let b4 = c .before .before .before .before in let b5 = b4 .before in
+    writable-exactly _ _ .0 (sym (b5 .write-refusal .ensures) ∙ b4 .if1 .left) .0 .settings
 
 job-end-requires : tie.Need-job-end-requires
-job-end-requires c κs = (writable-exactly _ _ .0 (sym (c .before .before .before .before .before .before .write-refusal .ensures) ∙ c .before .before .before .before .before .if1 .left) .0 .settings, c .stored-rows .ensures .1)
+job-end-requires c κs =
+    let b5 = c .before .before .before .before .before in let b6 = b5 .before in
+    (writable-exactly _ _ .0 (sym (b6 .write-refusal .ensures) ∙ b5 .if1 .left) .0 .settings, c .stored-rows .ensures .1)
 
 returns-2 : tie.Need-returns-2
 unfolding writeAnswer writeTo fileLength
-returns-2 c = record { answer = says-yes _ Refused (c .before .before .before .before .before .before .before .write-refusal .ensures) (c .before .before .before .before .before .before .if1 .left) (ap Length (c .job-end .ensures .0 ∙ ap (jobEnd (c .before .before .before .before .before .before .before .before .before .before .before .before .args .s)) (c .before .stored-rows .ensures .0))); destination = says-yes _ (λ k. now (c .before .before .before .before .before .before .before .before .before .before .before .before .args .out)) (c .before .before .before .before .before .before .before .write-refusal .ensures) (c .before .before .before .before .before .before .if1 .left) (c .before .before .before .before .put-job .ensures) }
+returns-2 c =
+    let b4 = c .before .before .before .before in let b6 = b4 .before .before in let b7 = b6 .before in let b12 = b7 .before .before .before .before .before in
+    record {
+      answer = says-yes _ Refused (b7 .write-refusal .ensures) (b6 .if1 .left) (ap Length (c .job-end .ensures .0 ∙ ap (jobEnd (b12 .args .s)) (c .before .stored-rows .ensures .0)));
+      destination = says-yes _ (λ k. now (b12 .args .out)) (b7 .write-refusal .ensures) (b6 .if1 .left) (b4 .put-job .ensures);
+    }
 
 pub write-spec : {M : Type 1} → statement M
 write-spec =

@@ -5,13 +5,21 @@ use Rattle.judge.proofs.judge.Statement.{statement}
 use Rattle.judge.proofs.judge.Tie as tie
 
 returns : tie.Need-returns
-returns c = judged-refused (c .before .before .before .before .before .args .s) (c .before .before .before .before .before .args .part .now) (c .before .before .before .before .before .args .support .now) (c .before .before .before .before .before .args .rings .now) _ (c .before .both-refusal .ensures) (c .if1 .taken)
+returns c =
+    let b5 = c .before .before .before .before .before in let args = b5 .args in
+    judged-refused (args .s) (args .part .now) (args .support .now) (args .rings .now) _ (c .before .both-refusal .ensures) (c .if1 .taken)
 
 verdict-requires : tie.Need-verdict-requires
-verdict-requires c κs = verdict-ready (c .before .before .before .before .before .args .s) (c .before .before .before .before .before .args .part .now) (c .before .before .before .before .before .args .support .now) (c .before .before .before .before .before .args .rings .now) (sym (c .before .both-refusal .ensures) ∙ c .if1 .left)
+verdict-requires c κs =
+    let b5 = c .before .before .before .before .before in let args = b5 .args in
+    verdict-ready (args .s) (args .part .now) (args .support .now) (args .rings .now) (sym (c .before .both-refusal .ensures) ∙ c .if1 .left)
 
 returns-2 : tie.Need-returns-2
-returns-2 c = judged-by (c .before .before .before .before .before .before .args .s) (c .before .before .before .before .before .before .args .part .now) (c .before .before .before .before .before .before .args .support .now) (c .before .before .before .before .before .before .args .rings .now) _ (c .before .before .both-refusal .ensures) (c .before .if1 .left) _ (c .verdict .ensures)
+returns-2 c =
+    let b6 = c .before .before .before .before .before .before in let args = b6 .args in
+    judged-by (args .s) (args .part .now) (args .support .now) (args .rings .now) _ (c .before .before .both-refusal .ensures) (c .before .if1 .left) _ (c .verdict .ensures)
 
 pub judge-spec : {M : Type 1} → statement M
-judge-spec = tie.close (tie.spec (λ c κs. search needs) returns verdict-requires returns-2)
+judge-spec =
+    tie.close
+    (tie.spec (λ c κs. search needs) returns verdict-requires returns-2)

@@ -6,72 +6,97 @@ use borrow.Author.Needs.{needs}
 use Rattle.judge.proofs.verdict.Statement.{statement}
 use Rattle.judge.proofs.verdict.Tie as tie
 
--- src/lib.rt:50:16
 mul-area : tie.Need-mul-area
-mul-area c = omega (arith, area-most (c .before .before .before .args .s .w) (c .before .before .before .args .s .h) (c .before .before .before .pre .0 .w-high) (c .before .before .before .pre .0 .h-high))
+mul-area c =
+    let b3 = c .before .before .before in
+    omega (arith, area-most (b3 .args .s .w) (b3 .args .s .h) (b3 .pre .0 .w-high) (b3 .pre .0 .h-high))
 
--- src/lib.rt:51:18
 mul-pixels : tie.Need-mul-pixels
 mul-pixels c = omega (arith, pixels-most (c .before .before .before .args .s) (c .before .before .before .pre .0))
 
--- src/lib.rt:52:17
 mul-pairs : tie.Need-mul-pairs
-mul-pairs c = omega (arith, rings-most (c .before .before .before .args .s) (c .before .before .before .pre .0), rings-is (c .before .before .before .args .s))
+mul-pairs c =
+    let b3 = c .before .before .before in
+    omega (arith, rings-most (b3 .args .s) (b3 .pre .0), rings-is (b3 .args .s))
 
--- src/lib.rt:53:9
 overlap-at-requires : tie.Need-overlap-at-requires
-overlap-at-requires c κs = ((plane-sized (c .before .before .before .args .s) (c .before .before .before .pre .0), c .before .before .before .pre .0 .n-high), (stack-length (c .before .before .before .args .s) _ (c .before .before .before .pre .1 .0), stack-length (c .before .before .before .args .s) _ (c .before .before .before .pre .1 .1 .0)))
+overlap-at-requires c κs =
+    let b3 = c .before .before .before in let pre = b3 .pre in
+    ((plane-sized (b3 .args .s) (pre .0), pre .0 .n-high), (stack-length (b3 .args .s) _ (pre .1 .0), stack-length (b3 .args .s) _ (pre .1 .1 .0)))
 
--- src/lib.rt:55:37
 place-of-requires : tie.Need-place-of-requires
-place-of-requires c κs = (plane-sized (c .before .before .before .before .before .args .s) (c .before .before .before .before .before .pre .0), (omega (arith, pixels-most (c .before .before .before .before .before .args .s) (c .before .before .before .before .before .pre .0), c .if1 .taken), omega arith))
+place-of-requires c κs =
+    let b5 = c .before .before .before .before .before in
+    (plane-sized (b5 .args .s) (b5 .pre .0), (omega (arith, pixels-most (b5 .args .s) (b5 .pre .0), c .if1 .taken), omega arith))
 
--- src/lib.rt:55:9
 returns : tie.Need-returns
-returns c = told-9 (c .before .before .before .before .before .before .args .s .w) (c .before .before .before .before .before .before .args .s .h) (c .before .before .before .before .before .before .args .s .n) (boundOf (c .before .before .before .before .before .before .args .s)) (c .before .before .before .before .before .before .args .part .now) (c .before .before .before .before .before .before .args .support .now) (c .before .before .before .before .before .before .args .rings .now) (c .before .before .overlap-at .result) (c .before .before .overlap-at .ensures) (c .before .if1 .taken) (c .place-of .result) (c .place-of .ensures)
+returns c =
+    let b6 = c .before .before .before .before .before .before in let args = b6 .args in
+    told-9 (args .s .w) (args .s .h) (args .s .n) (boundOf (args .s)) (args .part .now) (args .support .now) (args .rings .now) (c .before .before .overlap-at .result)
+    (c .before .before .overlap-at .ensures) (c .before .if1 .taken) (c .place-of .result) (c .place-of .ensures)
 
--- src/lib.rt:57:9
-bound-of-requires : tie.Need-bound-of-requires
-bound-of-requires c κs = c .before .before .before .before .before .pre .0
-
--- src/lib.rt:58:8
 sure-requires : tie.Need-sure-requires
-sure-requires c κs = (whole-of (c .before .before .before .before .before .before .args .s) (c .before .before .before .before .before .before .args .part .now) (c .before .before .before .before .before .before .args .support .now) (c .before .before .before .before .before .before .args .rings .now) (c .before .before .before .before .before .before .pre), c .bound-of .ensures .1)
+sure-requires c κs =
+    let b6 = c .before .before .before .before .before .before in let args = b6 .args in
+    (whole-of (args .s) (args .part .now) (args .support .now) (args .rings .now) (b6 .pre), c .bound-of .ensures .1)
 
--- src/lib.rt:59:9
 returns-2 : tie.Need-returns-2
-returns-2 c = told-sure (c .before .before .before .before .before .before .before .before .args .s) (c .before .before .bound-of .result .0) (c .before .before .before .before .before .before .before .before .args .part .now) (c .before .before .before .before .before .before .before .before .args .support .now) (c .before .before .before .before .before .before .before .before .args .rings .now) (c .before .before .before .before .overlap-at .result) (c .before .before .bound-of .ensures .0) (c .before .before .before .before .overlap-at .ensures) (c .before .before .before .if1 .left) (c .before .sure .ensures (c .if2 .taken))
+returns-2 c =
+    let b3 = c .before .before .before in let b4 = b3 .before in let b8 = b4 .before .before .before .before in let args = b8 .args in
+    told-sure (args .s) (c .before .before .bound-of .result .0) (args .part .now) (args .support .now) (args .rings .now) (b4 .overlap-at .result) (c .before .before .bound-of .ensures .0)
+    (b4 .overlap-at .ensures) (b3 .if1 .left) (c .before .sure .ensures (c .if2 .taken))
 
--- src/lib.rt:61:9
 first-requires : tie.Need-first-requires
-first-requires c κs = (whole-of (c .before .before .before .before .before .before .before .before .args .s) (c .before .before .before .before .before .before .before .before .args .part .now) (c .before .before .before .before .before .before .before .before .args .support .now) (c .before .before .before .before .before .before .before .before .args .rings .now) (c .before .before .before .before .before .before .before .before .pre), c .before .before .bound-of .ensures .1)
+first-requires c κs =
+    let b8 = c .before .before .before .before .before .before .before .before in let args = b8 .args in
+    (whole-of (args .s) (args .part .now) (args .support .now) (args .rings .now) (b8 .pre), c .before .before .bound-of .ensures .1)
 
--- src/lib.rt:63:38
 place-of-requires-2 : tie.Need-place-of-requires-2
-place-of-requires-2 c κs = (plane-sized (c .before .before .before .before .before .before .before .before .before .before .args .s) (c .before .before .before .before .before .before .before .before .before .before .pre .0), (omega (arith, rings-most (c .before .before .before .before .before .before .before .before .before .before .args .s) (c .before .before .before .before .before .before .before .before .before .before .pre .0), rings-is (c .before .before .before .before .before .before .before .before .before .before .args .s), c .if3 .taken), omega arith))
+place-of-requires-2 c κs =
+    let b10 = c .before .before .before .before .before .before .before .before .before .before in
+    (plane-sized (b10 .args .s) (b10 .pre .0), (omega (arith, rings-most (b10 .args .s) (b10 .pre .0), rings-is (b10 .args .s), c .if3 .taken), omega arith))
 
--- src/lib.rt:63:9
 returns-3 : tie.Need-returns-3
-returns-3 c = told-10 (c .before .before .before .before .before .before .before .before .before .before .before .args .s .w) (c .before .before .before .before .before .before .before .before .before .before .before .args .s .h) (c .before .before .before .before .before .before .before .before .before .before .before .args .s .n) (boundOf (c .before .before .before .before .before .before .before .before .before .before .before .args .s)) (c .before .before .before .before .before .before .before .before .before .before .before .args .part .now) (c .before .before .before .before .before .before .before .before .before .before .before .args .support .now) (c .before .before .before .before .before .before .before .before .before .before .before .args .rings .now) (c .before .before .before .before .before .before .before .overlap-at .result) (c .before .before .before .before .before .before .before .overlap-at .ensures) (c .before .before .before .before .before .before .if1 .left) (c .before .before .first .result) (first-bad (c .before .before .before .before .before .before .before .before .before .before .before .args .s) (c .before .before .before .before .before .bound-of .result .0) (c .before .before .before .before .before .before .before .before .before .before .before .args .part .now) (c .before .before .before .before .before .before .before .before .before .before .before .args .support .now) (c .before .before .before .before .before .before .before .before .before .before .before .args .rings .now) (c .before .before .before .before .before .bound-of .ensures .0) (c .before .before .first .result) (c .before .before .first .ensures)) (c .before .if3 .taken) (c .place-of2 .result) (c .place-of2 .ensures)
+returns-3 c =
+    let b2 = c .before .before in let b5 = b2 .before .before .before in let b6 = b5 .before in let b7 = b6 .before in let b11 = b7 .before .before .before .before in
+    let args = b11 .args in
+    told-10 (args .s .w) (args .s .h) (args .s .n) (boundOf (args .s)) (args .part .now) (args .support .now) (args .rings .now) (b7 .overlap-at .result) (b7 .overlap-at .ensures) (b6 .if1 .left)
+    (b2 .first .result) (first-bad (args .s) (b5 .bound-of .result .0) (args .part .now) (args .support .now) (args .rings .now) (b5 .bound-of .ensures .0) (b2 .first .result)
+    (b2 .first .ensures)) (c .before .if3 .taken) (c .place-of2 .result) (c .place-of2 .ensures)
 
--- src/lib.rt:65:9
 first-requires-2 : tie.Need-first-requires-2
-first-requires-2 c κs = (whole-of (c .before .before .before .before .before .before .before .before .before .before .args .s) (c .before .before .before .before .before .before .before .before .before .before .args .part .now) (c .before .before .before .before .before .before .before .before .before .before .args .support .now) (c .before .before .before .before .before .before .before .before .before .before .args .rings .now) (c .before .before .before .before .before .before .before .before .before .before .pre), c .before .before .before .before .bound-of .ensures .1)
+first-requires-2 c κs =
+    let b4 = c .before .before .before .before in let b10 = b4 .before .before .before .before .before .before in let args = b10 .args in
+    (whole-of (args .s) (args .part .now) (args .support .now) (args .rings .now) (b10 .pre), b4 .bound-of .ensures .1)
 
--- src/lib.rt:67:38
 place-of-requires-3 : tie.Need-place-of-requires-3
-place-of-requires-3 c κs = (plane-sized (c .before .before .before .before .before .before .before .before .before .before .before .before .args .s) (c .before .before .before .before .before .before .before .before .before .before .before .before .pre .0), (omega (arith, rings-most (c .before .before .before .before .before .before .before .before .before .before .before .before .args .s) (c .before .before .before .before .before .before .before .before .before .before .before .before .pre .0), rings-is (c .before .before .before .before .before .before .before .before .before .before .before .before .args .s), c .if4 .taken), omega arith))
+place-of-requires-3 c κs =
+    let b12 = c .before .before .before .before .before .before .before .before .before .before .before .before in
+    (plane-sized (b12 .args .s) (b12 .pre .0), (omega (arith, rings-most (b12 .args .s) (b12 .pre .0), rings-is (b12 .args .s), c .if4 .taken), omega arith))
 
--- src/lib.rt:67:9
 returns-4 : tie.Need-returns-4
-returns-4 c = told-11 (c .before .before .before .before .before .before .before .before .before .before .before .before .before .args .s .w) (c .before .before .before .before .before .before .before .before .before .before .before .before .before .args .s .h) (c .before .before .before .before .before .before .before .before .before .before .before .before .before .args .s .n) (boundOf (c .before .before .before .before .before .before .before .before .before .before .before .before .before .args .s)) (c .before .before .before .before .before .before .before .before .before .before .before .before .before .args .part .now) (c .before .before .before .before .before .before .before .before .before .before .before .before .before .args .support .now) (c .before .before .before .before .before .before .before .before .before .before .before .before .before .args .rings .now) (c .before .before .before .before .before .before .before .before .before .overlap-at .result) (c .before .before .before .before .before .before .before .before .before .overlap-at .ensures) (c .before .before .before .before .before .before .before .before .if1 .left) (c .before .before .before .before .first .result) (first-bad (c .before .before .before .before .before .before .before .before .before .before .before .before .before .args .s) (c .before .before .before .before .before .before .before .bound-of .result .0) (c .before .before .before .before .before .before .before .before .before .before .before .before .before .args .part .now) (c .before .before .before .before .before .before .before .before .before .before .before .before .before .args .support .now) (c .before .before .before .before .before .before .before .before .before .before .before .before .before .args .rings .now) (c .before .before .before .before .before .before .before .bound-of .ensures .0) (c .before .before .before .before .first .result) (c .before .before .before .before .first .ensures)) (c .before .before .before .if3 .left) (c .before .before .first2 .result) (first-unheld (c .before .before .before .before .before .before .before .before .before .before .before .before .before .args .s) (c .before .before .before .before .before .before .before .bound-of .result .0) (c .before .before .before .before .before .before .before .before .before .before .before .before .before .args .part .now) (c .before .before .before .before .before .before .before .before .before .before .before .before .before .args .support .now) (c .before .before .before .before .before .before .before .before .before .before .before .before .before .args .rings .now) (c .before .before .before .before .before .before .before .bound-of .ensures .0) (c .before .before .first2 .result) (c .before .before .first2 .ensures)) (c .before .if4 .taken) (c .place-of3 .result) (c .place-of3 .ensures)
+returns-4 c =
+    let b2 = c .before .before in let b3 = b2 .before in let b4 = b3 .before in let b7 = b4 .before .before .before in let b8 = b7 .before in let b9 = b8 .before in
+    let b13 = b9 .before .before .before .before in let args = b13 .args in
+    told-11 (args .s .w) (args .s .h) (args .s .n) (boundOf (args .s)) (args .part .now) (args .support .now) (args .rings .now) (b9 .overlap-at .result) (b9 .overlap-at .ensures) (b8 .if1 .left)
+    (b4 .first .result) (first-bad (args .s) (b7 .bound-of .result .0) (args .part .now) (args .support .now) (args .rings .now) (b7 .bound-of .ensures .0) (b4 .first .result)
+    (b4 .first .ensures)) (b3 .if3 .left) (b2 .first2 .result)
+    (first-unheld (args .s) (b7 .bound-of .result .0) (args .part .now) (args .support .now) (args .rings .now) (b7 .bound-of .ensures .0) (b2 .first2 .result) (b2 .first2 .ensures))
+    (c .before .if4 .taken) (c .place-of3 .result) (c .place-of3 .ensures)
 
--- src/lib.rt:43:1
 returns-5 : tie.Need-returns-5
-returns-5 c = told-accepted (c .before .before .before .before .before .before .before .before .before .before .before .before .args .s .w) (c .before .before .before .before .before .before .before .before .before .before .before .before .args .s .h) (c .before .before .before .before .before .before .before .before .before .before .before .before .args .s .n) (boundOf (c .before .before .before .before .before .before .before .before .before .before .before .before .args .s)) (c .before .before .before .before .before .before .before .before .before .before .before .before .args .part .now) (c .before .before .before .before .before .before .before .before .before .before .before .before .args .support .now) (c .before .before .before .before .before .before .before .before .before .before .before .before .args .rings .now) (c .before .before .before .before .before .before .before .before .overlap-at .result) (c .before .before .before .before .before .before .before .before .overlap-at .ensures) (c .before .before .before .before .before .before .before .if1 .left) (c .before .before .before .first .result) (first-bad (c .before .before .before .before .before .before .before .before .before .before .before .before .args .s) (c .before .before .before .before .before .before .bound-of .result .0) (c .before .before .before .before .before .before .before .before .before .before .before .before .args .part .now) (c .before .before .before .before .before .before .before .before .before .before .before .before .args .support .now) (c .before .before .before .before .before .before .before .before .before .before .before .before .args .rings .now) (c .before .before .before .before .before .before .bound-of .ensures .0) (c .before .before .before .first .result) (c .before .before .before .first .ensures)) (c .before .before .if3 .left) (c .before .first2 .result) (first-unheld (c .before .before .before .before .before .before .before .before .before .before .before .before .args .s) (c .before .before .before .before .before .before .bound-of .result .0) (c .before .before .before .before .before .before .before .before .before .before .before .before .args .part .now) (c .before .before .before .before .before .before .before .before .before .before .before .before .args .support .now) (c .before .before .before .before .before .before .before .before .before .before .before .before .args .rings .now) (c .before .before .before .before .before .before .bound-of .ensures .0) (c .before .first2 .result) (c .before .first2 .ensures)) (c .if4 .left)
+returns-5 c =
+    let b3 = c .before .before .before in let b6 = b3 .before .before .before in let b7 = b6 .before in let b8 = b7 .before in let b12 = b8 .before .before .before .before in
+    let args = b12 .args in
+    told-accepted (args .s .w) (args .s .h) (args .s .n) (boundOf (args .s)) (args .part .now) (args .support .now) (args .rings .now) (b8 .overlap-at .result) (b8 .overlap-at .ensures)
+    (b7 .if1 .left) (b3 .first .result) (first-bad (args .s) (b6 .bound-of .result .0) (args .part .now) (args .support .now) (args .rings .now) (b6 .bound-of .ensures .0) (b3 .first .result)
+    (b3 .first .ensures)) (c .before .before .if3 .left) (c .before .first2 .result)
+    (first-unheld (args .s) (b6 .bound-of .result .0) (args .part .now) (args .support .now) (args .rings .now) (b6 .bound-of .ensures .0) (c .before .first2 .result)
+    (c .before .first2 .ensures)) (c .if4 .left)
 
 pub verdict-spec : {M : Type 1} → statement M
 verdict-spec =
     tie.close
-    (tie.spec mul-area mul-pixels (λ c. search needs) mul-pairs overlap-at-requires place-of-requires returns bound-of-requires sure-requires
-    returns-2 first-requires place-of-requires-2 returns-3 first-requires-2 place-of-requires-3 returns-4 returns-5)
+    (tie.spec mul-area mul-pixels (λ c. search needs) mul-pairs overlap-at-requires place-of-requires returns
+    (λ c κs. c .before .before .before .before .before .pre .0) sure-requires returns-2 first-requires place-of-requires-2 returns-3 first-requires-2
+    place-of-requires-3 returns-4 returns-5)

@@ -7,4 +7,6 @@ returns : tie.Need-returns
 returns c = check-packed _ _ _ _ _ _ _ (c .before .before .settings .ensures) (c .before .judge .ensures) (c .pack-judged .ensures)
 
 pub kg-check-spec : {M : Type 1} → statement M
-kg-check-spec = tie.close (tie.spec (λ c κs. search needs) (λ c κs. search needs) (λ c κs. search needs) returns)
+kg-check-spec =
+    tie.close
+    (tie.spec (λ c κs. search needs) (λ c κs. search needs) (λ c κs. search needs) returns)

@@ -8,4 +8,5 @@ returns c = copy-packed _ _ _ _ _ (c .before .before .before .copy-rings .ensure
 
 pub kg-copy-rings-spec : {M : Type 1} → statement M
 kg-copy-rings-spec =
-    tie.close (tie.spec (λ c κs. search needs) (λ c κs. search needs) (λ c. search needs) returns)
+    tie.close
+    (tie.spec (λ c κs. search needs) (λ c κs. search needs) (λ c. search needs) returns)

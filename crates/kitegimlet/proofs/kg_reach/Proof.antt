@@ -7,4 +7,6 @@ returns : tie.Need-returns
 returns c = reach-packed _ _ _ _ (c .before .reach .ensures) (c .pack-reached .ensures)
 
 pub kg-reach-spec : {M : Type 1} → statement M
-kg-reach-spec = tie.close (tie.spec (λ c κs. search needs) (λ c κs. search needs) returns)
+kg-reach-spec =
+    tie.close
+    (tie.spec (λ c κs. search needs) (λ c κs. search needs) returns)

@@ -1,17 +1,22 @@
 use Rattle.kitegimlet.specs.Reading.{read-told, read-kept}
-use native.Mathlib.Omega.{arith}
 use borrow.Author.Needs.{needs}
 use Rattle.kitegimlet.proofs.kg_read.Statement.{statement}
 use Rattle.kitegimlet.proofs.kg_read.Tie as tie
 
 returns : tie.Need-returns
-returns c = read-told (c .before .before .before .before .before .before .before .before .before .before .args .file .now) (c .before .before .before .before .before .before .before .read .result) (c .before .before .before .before .before .before .before .read .ensures) (c .before .before .before .before .before .l .given .0 .0) (c .before .before .before .before .before .before .before .before .before .before .args .room .now) (c .before .before .tell .last .1 .0) (c .before .before .before .before .before .l .given .1) (c .before .before .tell .ensures)
+returns c =
+    let b5 = c .before .before .before .before .before in let b7 = b5 .before .before in let b10 = b7 .before .before .before in
+    read-told (b10 .args .file .now) (b7 .read .result) (b7 .read .ensures) (b5 .l .given .0 .0) (b10 .args .room .now) (c .before .before .write-layout .last .1 .0) (b5 .l .given .1)
+    (c .before .before .write-layout .ensures)
 
 returns-2 : tie.Need-returns-2
-returns-2 c = read-kept (c .before .before .before .before .before .before .before .args .file .now) (c .before .before .before .before .read .result) (c .before .before .before .before .read .ensures) (c .before .before .k .given .0 .0) (c .wide .result) (c .before .before .before .before .before .before .before .args .room .now) (c .before .before .k .given .1) (c .wide .ensures .0)
+returns-2 c =
+    let b4 = c .before .before .before .before in let b7 = b4 .before .before .before in
+    read-kept (b7 .args .file .now) (b4 .read .result) (b4 .read .ensures) (c .before .before .k .given .0 .0) (c .wide .result) (b7 .args .room .now) (c .before .before .k .given .1)
+    (c .wide .ensures .0)
 
 pub kg-read-spec : {M : Type 1} → statement M
 kg-read-spec =
     tie.close
-    (tie.spec (λ c κs. search needs) (λ c. search needs) (λ c κs. search needs) (λ c. search needs) (λ c κs. search needs)
-    (λ c. search needs) returns returns-2)
+    (tie.spec (λ c κs. search needs) (λ c. search needs) (λ c κs. search needs) (λ c. search needs) (λ c κs. search needs) (λ c. search needs) returns
+    returns-2)

@@ -4,8 +4,11 @@ use Rattle.kitegimlet.proofs.kg_write.Statement.{statement}
 use Rattle.kitegimlet.proofs.kg_write.Tie as tie
 
 returns : tie.Need-returns
-returns c = write-packed _ _ _ _ _ _ _ _ _ (c .before .before .before .before .before .settings .ensures) (c .before .before .before .write .ensures) (c .pack-written .ensures)
+returns c =
+    let b3 = c .before .before .before in let b5 = b3 .before .before in
+    write-packed _ _ _ _ _ _ _ _ _ (b5 .settings .ensures) (b3 .write .ensures) (c .pack-written .ensures)
 
 pub kg-write-spec : {M : Type 1} → statement M
 kg-write-spec =
-    tie.close (tie.spec (λ c κs. search needs) (λ c κs. search needs) (λ c κs. search needs) (λ c. search needs) returns)
+    tie.close
+    (tie.spec (λ c κs. search needs) (λ c κs. search needs) (λ c κs. search needs) (λ c. search needs) returns)

@@ -21,8 +21,9 @@ rows-of-requires c κs = stack-exactly _ _ _ _ _ .0 (sym (c .before .stack-refus
 
 padding-refusal-requires : tie.Need-padding-refusal-requires
 padding-refusal-requires c κs =
-    let A = c .before .before .before .before .before .before .args in
-    let v = stack-exactly (A .s) (A .stored) (A .part .now) (length (A .support .now)) (A .rings) .0 (sym (c .before .before .before .stack-refusal .ensures) ∙ c .before .before .if1 .left) in
+    let b3 = c .before .before .before in let b6 = b3 .before .before .before in
+    let A = b6 .args in
+    let v = stack-exactly (A .s) (A .stored) (A .part .now) (length (A .support .now)) (A .rings) .0 (sym (b3 .stack-refusal .ensures) ∙ c .before .before .if1 .left) in
     let r = ranged (A .s) (v .settings) in
     (r .w-low, (r .w-high, rows-fit (A .s) (A .stored) _ _ _ (v .lengths .support-long) (c .where-stored .ensures) (c .before .rows-of .ensures .0)))
 

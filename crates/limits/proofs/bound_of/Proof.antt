@@ -5,7 +5,9 @@ use Rattle.limits.proofs.bound_of.Statement.{statement}
 use Rattle.limits.proofs.bound_of.Tie as tie
 
 mul-t5 : tie.Need-mul-t5
-mul-t5 c = omega (arith, bound-fits (c .before .before .before .before .args .s) (c .before .reach-of .result) (c .before .before .before .before .pre) (c .before .reach-of .ensures))
+mul-t5 c =
+    let b4 = c .before .before .before .before in
+    omega (arith, bound-fits (b4 .args .s) (c .before .reach-of .result) (b4 .pre) (c .before .reach-of .ensures))
 
 returns : tie.Need-returns
 returns c =
@@ -14,4 +16,6 @@ returns c =
     (bound-is (A .s) (r .result) (r .ensures), bound-fits (A .s) (r .result) (c .before .before .before .before .pre) (r .ensures))
 
 pub bound-of-spec : {M : Type 1} → statement M
-bound-of-spec = tie.close (tie.spec (λ c κs. search needs) mul-t5 returns)
+bound-of-spec =
+    tie.close
+    (tie.spec (λ c κs. search needs) mul-t5 returns)

@@ -4,11 +4,8 @@ use borrow.Author.Needs.{needs}
 use Rattle.limits.proofs.pad_mask.Statement.{statement}
 use Rattle.limits.proofs.pad_mask.Tie as tie
 
-sub-result : tie.Need-sub-result
-sub-result c = omega (arith, power-small (c .args .pad) (c .pre))
-
-returns : tie.Need-returns
-returns c = omega (arith, power-small (c .args .pad) (c .pre))
-
 pub pad-mask-spec : {M : Type 1} → statement M
-pad-mask-spec = tie.close (tie.spec (λ c. search needs) (λ c. search needs) sub-result returns)
+pad-mask-spec =
+    tie.close
+    (tie.spec (λ c. search needs) (λ c. search needs) (λ c. omega (arith, power-small (c .args .pad) (c .pre)))
+    (λ c. omega (arith, power-small (c .args .pad) (c .pre))))

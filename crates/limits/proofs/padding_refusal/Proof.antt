@@ -10,4 +10,6 @@ returns-2 : tie.Need-returns-2
 returns-2 c = simp (row-none _ _ _ _ (c .before .padding-row .ensures) (c .if1 .left))
 
 pub padding-refusal-spec : {M : Type 1} → statement M
-padding-refusal-spec = tie.close (tie.spec (λ c κs. search needs) returns returns-2)
+padding-refusal-spec =
+    tie.close
+    (tie.spec (λ c κs. search needs) returns returns-2)

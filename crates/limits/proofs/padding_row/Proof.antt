@@ -20,7 +20,9 @@ unfolding rowBytes
 sub-pad c = omega (arith, c .row-bytes .ensures .0)
 
 returns : tie.Need-returns Inv-loop μ-loop
-returns c = let A = c .before .before .before .args in pad-whole (A .w) (A .k) (A .s .now) (c .before .row-bytes .result) _ (c .before .row-bytes .ensures .0) refl (c .if1 .taken)
+returns c =
+    let b3 = c .before .before .before in
+    let A = b3 .args in pad-whole (A .w) (A .k) (A .s .now) (c .before .row-bytes .result) _ (c .before .row-bytes .ensures .0) refl (c .if1 .taken)
 
 pad-mask-requires : tie.Need-pad-mask-requires Inv-loop μ-loop
 unfolding rowBytes
@@ -62,10 +64,11 @@ shared-slice-read-if2 c =
 
 returns-2 : tie.Need-returns-2 Inv-loop μ-loop
 returns-2 c =
-    let A = c .before .before .before .before .before .before .before .before .args in
-    let rb = c .before .before .before .before .before .before .row-bytes in
-    let L = c .before .before .before .loop in
-    let m = c .before .before .before .before .pad-mask in
+    let b3 = c .before .before .before in let b4 = b3 .before in let b6 = b4 .before .before in let b8 = b6 .before .before in
+    let A = b8 .args in
+    let rb = b6 .row-bytes in
+    let L = b3 .loop in
+    let m = b4 .pad-mask in
     pad-hit (A .w) (A .s .now) (L .row) _ (rb .result) (m .result) (rb .ensures .0) refl (m .ensures) (A .k) (c .before .before .loop-test .taken) (L .inv .1) (c .if2 .taken)
 
 loop-again : tie.Need-loop-again Inv-loop μ-loop

@@ -1,5 +1,4 @@
 use Rattle.limits.proofs.Settings.{reach-no, reach-yes, pitch-good}
-use native.Mathlib.Omega.{arith}
 use borrow.Author.Needs.{needs}
 use Rattle.limits.proofs.reach.Statement.{statement}
 use Rattle.limits.proofs.reach.Tie as tie
@@ -11,7 +10,14 @@ reach-of-requires : tie.Need-reach-of-requires
 reach-of-requires c κs = pitch-good (c .before .before .args .pitch) (c .before .before .args .overhang) (c .before .reach-refusal .result) (c .before .reach-refusal .ensures) (c .if1 .left)
 
 returns-2 : tie.Need-returns-2
-returns-2 c = record { answer = reach-yes (c .before .before .before .args .pitch) (c .before .before .before .args .overhang) (c .before .before .reach-refusal .result) (c .reach-of .result) (c .before .before .reach-refusal .ensures) (c .before .if1 .left) (c .reach-of .ensures) }
+returns-2 c =
+    let b3 = c .before .before .before in
+    record {
+      answer = reach-yes (b3 .args .pitch) (b3 .args .overhang) (c .before .before .reach-refusal .result) (c .reach-of .result) (c .before .before .reach-refusal .ensures)
+          (c .before .if1 .left) (c .reach-of .ensures);
+    }
 
 pub reach-spec : {M : Type 1} → statement M
-reach-spec = tie.close (tie.spec (λ c κs. search needs) returns reach-of-requires returns-2)
+reach-spec =
+    tie.close
+    (tie.spec (λ c κs. search needs) returns reach-of-requires returns-2)

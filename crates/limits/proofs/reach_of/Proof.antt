@@ -1,4 +1,3 @@
-use Prim.Native.Nat.{_/_}
 use native.Mathlib.Nat.{div-le-self}
 use Rattle.rules.specs.Reach as rule
 use native.Mathlib.Omega.{arith}
@@ -14,4 +13,6 @@ unfolding rule.reachOf
 returns c = cc
 
 pub reach-of-spec : {M : Type 1} → statement M
-reach-of-spec = tie.close (tie.spec (λ c. search needs) cast-t4 returns)
+reach-of-spec =
+    tie.close
+    (tie.spec (λ c. search needs) cast-t4 returns)

@@ -23,4 +23,6 @@ unfolding ringsIn
 returns c = (refl, rings-most (c .before .before .args .s) (ranged (c .before .before .args .s) (c .before .before .pre)))
 
 pub rings-in-spec : {M : Type 1} → statement M
-rings-in-spec = tie.close (tie.spec sub-result mul-result mul-result-2 returns)
+rings-in-spec =
+    tie.close
+    (tie.spec sub-result mul-result mul-result-2 returns)

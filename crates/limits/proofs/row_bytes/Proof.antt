@@ -9,4 +9,6 @@ unfolding rowBytes
 returns c = (omega arith, omega arith)
 
 pub row-bytes-spec : {M : Type 1} → statement M
-row-bytes-spec = tie.close (tie.spec (λ c. search needs) returns)
+row-bytes-spec =
+    tie.close
+    (tie.spec (λ c. search needs) returns)

@@ -14,4 +14,6 @@ unfolding rowsOf
 returns c = (refl, rows-most (c .before .args .s) (ranged (c .before .args .s) (c .before .pre)))
 
 pub rows-of-spec : {M : Type 1} → statement M
-rows-of-spec = tie.close (tie.spec mul-result returns)
+rows-of-spec =
+    tie.close
+    (tie.spec mul-result returns)

@@ -1,7 +1,6 @@
-use mathlib.Core.Path.{sym, ap, _∙_}
-use borrow.Author.Tests.{le-leb, lt-leb, le-ltb, lt-ltb, not-true, not-false}
+use mathlib.Core.Path.{sym, _∙_}
+use borrow.Author.Tests.{not-true, not-false}
 use Rattle.rules.specs.Reach as rule
-use native.Mathlib.Omega.{arith}
 use borrow.Author.Needs.{needs}
 use Rattle.limits.proofs.settable.Statement.{statement}
 use Rattle.limits.proofs.settable.Tie as tie
@@ -15,4 +14,6 @@ unfolding rule.settable
 returns-2 c = simp (sym (c .before .before .within .ensures) ∙ not-false _ (c .before .if1 .left))
 
 pub settable-spec : {M : Type 1} → statement M
-settable-spec = tie.close (tie.spec (λ c. search needs) (λ c κs. search needs) returns returns-2)
+settable-spec =
+    tie.close
+    (tie.spec (λ c. search needs) (λ c κs. search needs) returns returns-2)

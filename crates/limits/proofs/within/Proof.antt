@@ -1,8 +1,5 @@
-use mathlib.Core.Path.{sym, ap, _∙_}
-use borrow.Author.Tests.{le-leb, lt-leb, le-ltb, lt-ltb, not-true, not-false}
+use borrow.Author.Tests.{le-leb, lt-leb}
 use Rattle.rules.specs.Images as images
-use native.Mathlib.Omega.{arith}
-use borrow.Author.Needs.{needs}
 use Rattle.limits.proofs.within.Statement.{statement}
 use Rattle.limits.proofs.within.Tie as tie
 
@@ -15,4 +12,6 @@ unfolding images.within
 returns-2 c = simp (lt-leb _ _ (c .if1 .left))
 
 pub within-spec : {M : Type 1} → statement M
-within-spec = tie.close (tie.spec returns returns-2)
+within-spec =
+    tie.close
+    (tie.spec returns returns-2)

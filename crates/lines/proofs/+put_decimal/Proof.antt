@@ -2,7 +2,6 @@
 use lib.ListN.{length-set}
 use Rattle.lines.specs.Text.{small-room, small-done, tenth-room, more-room, more-length, more-done}
 use native.Mathlib.Omega.{arith}
-use borrow.Author.Needs.{needs}
 use Prim.Native.Nat.{ℕ, _<_}
 use borrow.Fn.Kinds.{In}
 use borrow.Fn.PlainCycle.{Measures, is, falls, and}
@@ -38,7 +37,9 @@ put-decimal-slice-write-out : (t : ℕ) → put-decimal-lts.Need-slice-write-out
   put-decimal-below t,
   put-decimal.Post,
 ) (put-decimal-at t) put-decimal.Post
-put-decimal-slice-write-out t c = small-room (c .before .before .before .args .out .now) (c .before .before .before .args .at) (c .before .before .before .args .x) (c .before .before .before .pre .1) (c .before .if1 .taken)
+put-decimal-slice-write-out t c =
+    let b3 = c .before .before .before in
+    small-room (b3 .args .out .now) (b3 .args .at) (b3 .args .x) (b3 .pre .1) (c .before .if1 .taken)
 
 put-decimal-add-result : (t : ℕ) → put-decimal-lts.Need-add-result (
   digit-reads.Asked,
@@ -46,7 +47,9 @@ put-decimal-add-result : (t : ℕ) → put-decimal-lts.Need-add-result (
   put-decimal-below t,
   put-decimal.Post,
 ) (put-decimal-at t) put-decimal.Post
-put-decimal-add-result t c = omega (arith, small-room (c .before .before .before .args .out .now) (c .before .before .before .args .at) (c .before .before .before .args .x) (c .before .before .before .pre .1) (c .before .if1 .taken))
+put-decimal-add-result t c =
+    let b3 = c .before .before .before in
+    omega (arith, small-room (b3 .args .out .now) (b3 .args .at) (b3 .args .x) (b3 .pre .1) (c .before .if1 .taken))
 
 put-decimal-same-length : (t : ℕ) → put-decimal-lts.Need-same-length (
   digit-reads.Asked,
@@ -62,7 +65,9 @@ put-decimal-returns : (t : ℕ) → put-decimal-lts.Need-returns (
   put-decimal-below t,
   put-decimal.Post,
 ) (put-decimal-at t) put-decimal.Post
-put-decimal-returns t c = small-done (c .before .before .before .args .out .now) (c .before .before .before .args .at) (c .before .before .before .args .x) (c .before .before .before .pre .1) (c .digit .result) (c .before .if1 .taken) (c .digit .ensures)
+put-decimal-returns t c =
+    let b3 = c .before .before .before in
+    small-done (b3 .args .out .now) (b3 .args .at) (b3 .args .x) (b3 .pre .1) (c .digit .result) (c .before .if1 .taken) (c .digit .ensures)
 
 put-decimal-put-decimal-requires : (t : ℕ) → put-decimal-lts.Need-put-decimal-requires (
   digit-reads.Asked,
@@ -70,7 +75,9 @@ put-decimal-put-decimal-requires : (t : ℕ) → put-decimal-lts.Need-put-decima
   put-decimal-below t,
   put-decimal.Post,
 ) (put-decimal-at t) put-decimal.Post
-put-decimal-put-decimal-requires t c κs = (omega (arith, c .before .before .before .pre .0, c .before .if1 .left), tenth-room (c .before .before .before .args .out .now) (c .before .before .before .args .at) (c .before .before .before .args .x) (c .before .before .before .pre .1) (c .before .if1 .left))
+put-decimal-put-decimal-requires t c κs =
+    let b3 = c .before .before .before in
+    (omega (arith, b3 .pre .0, c .before .if1 .left), tenth-room (b3 .args .out .now) (b3 .args .at) (b3 .args .x) (b3 .pre .1) (c .before .if1 .left))
 
 put-decimal-digit-requires-2 : (t : ℕ) → put-decimal-lts.Need-digit-requires-2 (
   digit-reads.Asked,
@@ -86,7 +93,10 @@ put-decimal-slice-write-out-2 : (t : ℕ) → put-decimal-lts.Need-slice-write-o
   put-decimal-below t,
   put-decimal.Post,
 ) (put-decimal-at t) put-decimal.Post
-put-decimal-slice-write-out-2 t c = more-room (c .before .before .before .before .before .before .before .args .out .now) (c .before .before .before .before .before .before .before .args .at) (c .before .before .before .before .before .before .before .args .x) (c .before .before .before .before .before .before .before .pre .1) (c .before .before .before .before .before .if1 .left) (c .before .before .before .put-decimal .result) (c .before .before .before .put-decimal .last .0) (c .before .before .before .put-decimal .ensures .0) (c .before .before .before .put-decimal .ensures .1)
+put-decimal-slice-write-out-2 t c =
+    let b3 = c .before .before .before in let b5 = b3 .before .before in let b7 = b5 .before .before in
+    more-room (b7 .args .out .now) (b7 .args .at) (b7 .args .x) (b7 .pre .1) (b5 .if1 .left) (b3 .put-decimal .result) (b3 .put-decimal .last .0) (b3 .put-decimal .ensures .0)
+    (b3 .put-decimal .ensures .1)
 
 put-decimal-add-result-2 : (t : ℕ) → put-decimal-lts.Need-add-result-2 (
   digit-reads.Asked,
@@ -94,7 +104,13 @@ put-decimal-add-result-2 : (t : ℕ) → put-decimal-lts.Need-add-result-2 (
   put-decimal-below t,
   put-decimal.Post,
 ) (put-decimal-at t) put-decimal.Post
-put-decimal-add-result-2 t c = omega (arith, more-room (c .before .before .before .before .before .before .before .args .out .now) (c .before .before .before .before .before .before .before .args .at) (c .before .before .before .before .before .before .before .args .x) (c .before .before .before .before .before .before .before .pre .1) (c .before .before .before .before .before .if1 .left) (c .before .before .before .put-decimal .result) (c .before .before .before .put-decimal .last .0) (c .before .before .before .put-decimal .ensures .0) (c .before .before .before .put-decimal .ensures .1))
+put-decimal-add-result-2 t c =
+    let b3 = c .before .before .before in let b5 = b3 .before .before in let b7 = b5 .before .before in
+    omega (
+      arith,
+      more-room (b7 .args .out .now) (b7 .args .at) (b7 .args .x) (b7 .pre .1) (b5 .if1 .left) (b3 .put-decimal .result) (b3 .put-decimal .last .0) (b3 .put-decimal .ensures .0)
+          (b3 .put-decimal .ensures .1),
+    )
 
 put-decimal-same-length-2 : (t : ℕ) → put-decimal-lts.Need-same-length-2 (
   digit-reads.Asked,
@@ -102,7 +118,10 @@ put-decimal-same-length-2 : (t : ℕ) → put-decimal-lts.Need-same-length-2 (
   put-decimal-below t,
   put-decimal.Post,
 ) (put-decimal-at t) put-decimal.Post
-put-decimal-same-length-2 t c = more-length (c .before .before .before .before .before .before .before .args .out .now) (c .before .before .before .before .before .before .before .args .at) (c .before .before .before .before .before .before .before .args .x) (c .before .before .before .before .before .before .before .pre .1) (c .before .before .before .before .before .if1 .left) (c .before .before .before .put-decimal .result) (c .before .before .before .put-decimal .last .0) (c .before .before .before .put-decimal .ensures .0) (c .before .before .before .put-decimal .ensures .1) (c .digit2 .result)
+put-decimal-same-length-2 t c =
+    let b3 = c .before .before .before in let b5 = b3 .before .before in let b7 = b5 .before .before in
+    more-length (b7 .args .out .now) (b7 .args .at) (b7 .args .x) (b7 .pre .1) (b5 .if1 .left) (b3 .put-decimal .result) (b3 .put-decimal .last .0) (b3 .put-decimal .ensures .0)
+    (b3 .put-decimal .ensures .1) (c .digit2 .result)
 
 put-decimal-returns-2 : (t : ℕ) → put-decimal-lts.Need-returns-2 (
   digit-reads.Asked,
@@ -110,7 +129,10 @@ put-decimal-returns-2 : (t : ℕ) → put-decimal-lts.Need-returns-2 (
   put-decimal-below t,
   put-decimal.Post,
 ) (put-decimal-at t) put-decimal.Post
-put-decimal-returns-2 t c = more-done (c .before .before .before .before .before .before .before .args .out .now) (c .before .before .before .before .before .before .before .args .at) (c .before .before .before .before .before .before .before .args .x) (c .before .before .before .before .before .before .before .pre .1) (c .before .before .before .before .before .if1 .left) (c .before .before .before .put-decimal .result) (c .before .before .before .put-decimal .last .0) (c .before .before .before .put-decimal .ensures .0) (c .before .before .before .put-decimal .ensures .1) (c .digit2 .result) (c .digit2 .ensures)
+put-decimal-returns-2 t c =
+    let b3 = c .before .before .before in let b5 = b3 .before .before in let b7 = b5 .before .before in
+    more-done (b7 .args .out .now) (b7 .args .at) (b7 .args .x) (b7 .pre .1) (b5 .if1 .left) (b3 .put-decimal .result) (b3 .put-decimal .last .0) (b3 .put-decimal .ensures .0)
+    (b3 .put-decimal .ensures .1) (c .digit2 .result) (c .digit2 .ensures)
 
 pub +put-decimal-spec : {M : Type 1} → statement M
 +put-decimal-spec = close μ-put-decimal λ t. put-decimal-lts.spec (

@@ -6,13 +6,22 @@ use Rattle.lines.proofs.job_lines.Statement.{statement}
 use Rattle.lines.proofs.job_lines.Tie as tie
 
 job-line-requires : tie.Need-job-line-requires
-job-line-requires c κs = let r = in-range (c .before .before .before .before .before .pre .0) in let hp = r .pitch-low in (omega arith, omega (arith, job-short (c .before .before .before .before .before .args .s) r, c .before .before .before .before .before .pre .1))
+job-line-requires c κs =
+    let b5 = c .before .before .before .before .before in
+    let r = in-range (b5 .pre .0) in let hp = r .pitch-low in (omega arith, omega (arith, job-short (b5 .args .s) r, b5 .pre .1))
 
 layer-lines-requires : tie.Need-layer-lines-requires
-layer-lines-requires c κs = (c .before .before .before .before .before .before .before .before .before .pre .0, job-room (c .before .before .before .before .before .before .before .before .before .args .s) (in-range (c .before .before .before .before .before .before .before .before .before .pre .0)) (c .before .before .before .job-line .result) (c .before .before .before .job-line .last .0) (c .before .before .before .job-line .ensures .0) (c .before .before .before .job-line .kept .0 ∙ c .before .before .before .before .before .before .before .before .before .pre .1))
+layer-lines-requires c κs =
+    let b3 = c .before .before .before in let b9 = b3 .before .before .before .before .before .before in
+    (b9 .pre .0, job-room (b9 .args .s) (in-range (b9 .pre .0)) (b3 .job-line .result) (b3 .job-line .last .0) (b3 .job-line .ensures .0) (b3 .job-line .kept .0 ∙ b9 .pre .1))
 
 returns : tie.Need-returns
-returns c = job-whole (c .before .before .before .before .before .before .before .before .before .before .before .before .args .s) (c .before .before .before .before .before .before .before .before .before .before .before .before .args .part .now) (c .before .before .before .before .before .before .before .before .before .before .before .before .args .support .now) (c .before .before .before .before .before .before .before .before .before .before .before .before .args .rings .now) (c .before .before .before .before .before .before .before .before .before .before .before .before .args .out .now) (c .before .before .before .before .before .before .job-line .last .0) (c .before .before .layer-lines .last .0) (c .before .before .before .before .before .before .job-line .result) (c .before .before .layer-lines .result) (in-range (c .before .before .before .before .before .before .before .before .before .before .before .before .pre .0)) (c .before .before .before .before .before .before .before .before .before .before .before .before .pre .1) (c .before .before .before .before .before .before .job-line .ensures) (c .before .before .layer-lines .ensures)
+returns c =
+    let b2 = c .before .before in let b6 = b2 .before .before .before .before in let b12 = b6 .before .before .before .before .before .before in let args = b12 .args in
+    job-whole (args .s) (args .part .now) (args .support .now) (args .rings .now) (args .out .now) (b6 .job-line .last .0) (b2 .layer-lines .last .0) (b6 .job-line .result)
+    (b2 .layer-lines .result) (in-range (b12 .pre .0)) (b12 .pre .1) (b6 .job-line .ensures) (b2 .layer-lines .ensures)
 
 pub job-lines-spec : {M : Type 1} → statement M
-job-lines-spec = tie.close (tie.spec job-line-requires layer-lines-requires (λ c. search needs) returns)
+job-lines-spec =
+    tie.close
+    (tie.spec job-line-requires layer-lines-requires (λ c. search needs) returns)

@@ -1,6 +1,5 @@
 use mathlib.Core.Path.{refl}
 use Rattle.laws.specs.Runs.{stores1}
-use native.Mathlib.Omega.{arith}
 use borrow.Author.Needs.{needs}
 use Rattle.lines.proofs.put_byte.Statement.{statement}
 use Rattle.lines.proofs.put_byte.Tie as tie
@@ -9,4 +8,6 @@ returns : tie.Need-returns
 returns c = (refl, stores1 (c .args .out .now) (c .args .at) (c .args .b) (c .pre))
 
 pub put-byte-spec : {M : Type 1} → statement M
-put-byte-spec = tie.close (tie.spec (λ c. search needs) (λ c. search needs) (λ c. search needs) returns)
+put-byte-spec =
+    tie.close
+    (tie.spec (λ c. search needs) (λ c. search needs) (λ c. search needs) returns)

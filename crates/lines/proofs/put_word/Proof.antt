@@ -1,5 +1,5 @@
 use Prim.Native.Nat.{_-_, _≤_}
-use mathlib.Core.Path.{_≡_, refl, _∙_}
+use mathlib.Core.Path.{_≡_, refl}
 use lib.ListN.{length, take, length-set}
 use Rattle.rules.specs.Jobs.{over}
 use Rattle.laws.specs.Runs.{over-none}
@@ -15,9 +15,6 @@ Inv-loop out₀ at word i₀ out i = (i ≤ length word) × (length out ≡ leng
 abbrev μ-loop : tie.MeasureT-loop
 μ-loop out₀ at word i₀ out i = length word - i
 
-loop-holds : tie.Need-loop-holds Inv-loop μ-loop
-loop-holds c = (omega arith, refl, over-none (c .args .out .now) (c .args .at))
-
 add-out : tie.Need-add-out Inv-loop μ-loop
 add-out c = omega (arith, c .before .before .before .pre, c .before .loop-test .taken)
 
@@ -25,19 +22,21 @@ slice-write-out : tie.Need-slice-write-out Inv-loop μ-loop
 slice-write-out c = omega (arith, c .before .before .before .pre, c .before .loop-test .taken, c .before .before .loop .inv .1)
 
 loop-again : tie.Need-loop-again Inv-loop μ-loop
-loop-again c = (omega arith, simp length-set (c .before .before .loop .inv .1), word-more (c .before .before .before .args .out .now) (c .before .before .loop .out) (c .before .before .before .args .word .now) (c .before .before .before .args .at) (c .before .before .loop .i) (c .before .loop-test .taken) (c .before .before .before .pre) (c .before .before .loop .inv .2))
-
-add-result : tie.Need-add-result Inv-loop μ-loop
-add-result c = omega (arith, c .before .before .pre)
-
-same-length : tie.Need-same-length Inv-loop μ-loop
-same-length c = c .before .loop .inv .1
+loop-again c =
+    let b2 = c .before .before in let b3 = b2 .before in (
+      omega arith,
+      simp length-set (b2 .loop .inv .1),
+      word-more (b3 .args .out .now) (b2 .loop .out) (b3 .args .word .now) (b3 .args .at) (b2 .loop .i) (c .before .loop-test .taken) (b3 .pre)
+          (b2 .loop .inv .2),
+    )
 
 returns : tie.Need-returns Inv-loop μ-loop
-returns c = word-done (c .before .before .args .out .now) (c .before .loop .out) (c .before .before .args .word .now) (c .before .before .args .at) (c .before .loop .i) (c .loop-test .left) (c .before .loop .inv .0) (c .before .loop .inv .2)
+returns c =
+    let b2 = c .before .before in
+    word-done (b2 .args .out .now) (c .before .loop .out) (b2 .args .word .now) (b2 .args .at) (c .before .loop .i) (c .loop-test .left) (c .before .loop .inv .0) (c .before .loop .inv .2)
 
 pub put-word-spec : {M : Type 1} → statement M
 put-word-spec =
     tie.close
-    (tie.spec Inv-loop μ-loop loop-holds (λ c. search needs) add-out slice-write-out (λ c. search needs) (λ c. search needs) loop-again
-    add-result same-length returns)
+    (tie.spec Inv-loop μ-loop (λ c. (omega arith, refl, over-none (c .args .out .now) (c .args .at))) (λ c. search needs) add-out slice-write-out
+    (λ c. search needs) (λ c. search needs) loop-again (λ c. omega (arith, c .before .before .pre)) (λ c. c .before .loop .inv .1) returns)

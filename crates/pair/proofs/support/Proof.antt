@@ -18,61 +18,62 @@ Inv-loop up low above out₀ all₀ i₀ out all i = (i ≤ length out₀) × Fi
 abbrev μ-loop : tie.MeasureT-loop
 μ-loop up low above out₀ all₀ i₀ out all i = length out₀ - i
 
--- src/lib.rt:38:5
 loop-holds : tie.Need-loop-holds Inv-loop μ-loop
 loop-holds c = (omega arith, filling-none _ _ _, λ e k x m lm. absurd (omega arith))
 
--- src/lib.rt:39:22
 shared-slice-read-all : tie.Need-shared-slice-read-all Inv-loop μ-loop
 shared-slice-read-all c = omega (arith, c .before .loop-test .taken, c .before .before .before .pre, c .before .before .loop .inv .1 .long)
 
--- src/lib.rt:39:31
 shared-slice-read-all-2 : tie.Need-shared-slice-read-all-2 Inv-loop μ-loop
-shared-slice-read-all-2 c = omega (arith, c .before .before .loop-test .taken, c .before .before .before .before .pre, c .before .before .before .loop .inv .1 .long)
+shared-slice-read-all-2 c =
+    let b3 = c .before .before .before in let b4 = b3 .before in
+    omega (arith, c .before .before .loop-test .taken, b4 .pre, b3 .loop .inv .1 .long)
 
--- src/lib.rt:40:19
 shared-slice-read-out : tie.Need-shared-slice-read-out Inv-loop μ-loop
-shared-slice-read-out c = omega (arith, c .before .before .before .loop-test .taken, c .before .before .before .before .before .pre, c .before .before .before .before .loop .inv .1 .long)
+shared-slice-read-out c =
+    let b3 = c .before .before .before in let b4 = b3 .before in let b5 = b4 .before in
+    omega (arith, b3 .loop-test .taken, b5 .pre, b4 .loop .inv .1 .long)
 
--- src/lib.rt:40:27
 shared-slice-read-out-2 : tie.Need-shared-slice-read-out-2 Inv-loop μ-loop
-shared-slice-read-out-2 c = omega (arith, c .before .before .before .before .loop-test .taken, c .before .before .before .before .before .before .pre, c .before .before .before .before .before .loop .inv .1 .long)
+shared-slice-read-out-2 c =
+    let b4 = c .before .before .before .before in let b5 = b4 .before in let b6 = b5 .before in
+    omega (arith, b4 .loop-test .taken, b6 .pre, b5 .loop .inv .1 .long)
 
--- src/lib.rt:40:40
 shared-slice-read-out-3 : tie.Need-shared-slice-read-out-3 Inv-loop μ-loop
-shared-slice-read-out-3 c = omega (arith, c .before .before .before .before .before .loop-test .taken, c .before .before .before .before .before .before .before .pre, c .before .before .before .before .before .before .loop .inv .1 .long)
+shared-slice-read-out-3 c =
+    let b5 = c .before .before .before .before .before in let b6 = b5 .before in let b7 = b6 .before in
+    omega (arith, b5 .loop-test .taken, b7 .pre, b6 .loop .inv .1 .long)
 
--- src/lib.rt:38:5
 loop-less : tie.Need-loop-less Inv-loop μ-loop
-loop-less c = omega (arith, c .before .before .before .before .before .loop-test .taken, c .before .before .before .before .before .before .loop .inv .1 .long)
+loop-less c =
+    let b5 = c .before .before .before .before .before in let b6 = b5 .before in
+    omega (arith, b5 .loop-test .taken, b6 .loop .inv .1 .long)
 
--- src/lib.rt:38:5
 loop-again : tie.Need-loop-again Inv-loop μ-loop
 loop-again c =
-    let A = c .before .before .before .before .before .before .before .args in
-    let L = c .before .before .before .before .before .before .loop in (
-      omega (arith, c .before .before .before .before .before .loop-test .taken, L .inv .1 .long),
-      filling-more 0 (L .i) _ (λ j. (bitOf (A .up .now) j || bitOf (A .above .now) j) && not (bitOf (A .low .now) j)) (L .out) (A .out .now) (omega arith) (omega (arith, c .before .before .before .before .before .loop-test .taken)) (L .inv .1)
+    let b3 = c .before .before .before in let b5 = b3 .before .before in let b6 = b5 .before in let b7 = b6 .before in
+    let A = b7 .args in
+    let L = b6 .loop in (
+      omega (arith, b5 .loop-test .taken, L .inv .1 .long),
+      filling-more 0 (L .i) _ (λ j. (bitOf (A .up .now) j || bitOf (A .above .now) j) && not (bitOf (A .low .now) j)) (L .out) (A .out .now) (omega arith) (omega (arith, b5 .loop-test .taken))
+          (L .inv .1)
           (support-byte (A .up .now) (A .low .now) (A .above .now) (L .i) (c .shared-slice-known5 .given (L .i) .fits)),
       λ e. let o = or-none (L .all) (bitAnd (getD (A .up .now) (L .i) 0) (255 - getD (A .low .now) (L .i) 0)) e in
-          none-more (A .low .now) (A .up .now) (L .i) (c .before .before .before .shared-slice-known2 .given (L .i) .fits) (o .1) (L .inv .2 (o .0)),
+          none-more (A .low .now) (A .up .now) (L .i) (b3 .shared-slice-known2 .given (L .i) .fits) (o .1) (L .inv .2 (o .0)),
     )
 
--- src/lib.rt:31:1
-same-length : tie.Need-same-length Inv-loop μ-loop
-same-length c = c .before .loop .inv .1 .long
-
--- src/lib.rt:31:1
 returns : tie.Need-returns Inv-loop μ-loop
-returns c =
-    let A = c .before .before .args in
+returns c = let A = c .before .before .args in
     let L = c .before .loop in
     let e : L .i ≡ length (A .out .now) = omega (arith, c .loop-test .left, L .inv .0, L .inv .1 .long) in
-    let W = filling-all _ _ _ _ _ (rw e at (L .inv .1)) in
-    (λ j lj. W .inner j (omega arith) lj, none-hangs (A .low .now) (A .up .now) (length (A .low .now)) (L .all) (λ z. subst (λ (n : ℕ). NoneHangs n (A .low .now) (A .up .now)) (omega (arith, e, c .before .before .pre)) (L .inv .2 z)))
+    let W = filling-all _ _ _ _ _ (rw e at (L .inv .1)) in (
+      λ j lj. W .inner j (omega arith) lj,
+      none-hangs (A .low .now) (A .up .now) (length (A .low .now)) (L .all)
+          (λ z. subst (λ (n : ℕ). NoneHangs n (A .low .now) (A .up .now)) (omega (arith, e, c .before .before .pre)) (L .inv .2 z)),
+    )
 
 pub support-spec : {M : Type 1} → statement M
 support-spec =
     tie.close
     (tie.spec Inv-loop μ-loop loop-holds shared-slice-read-all shared-slice-read-all-2 shared-slice-read-out shared-slice-read-out-2
-    shared-slice-read-out-3 (λ c. search needs) (λ c. search needs) loop-less loop-again same-length returns)
+    shared-slice-read-out-3 (λ c. search needs) (λ c. search needs) loop-less loop-again (λ c. c .before .loop .inv .1 .long) returns)

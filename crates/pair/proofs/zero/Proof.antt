@@ -14,17 +14,16 @@ Inv-loop ring₀ i₀ ring i =
 abbrev μ-loop : tie.MeasureT-loop
 μ-loop ring₀ i₀ ring i = length ring₀ - i
 
-loop-holds : tie.Need-loop-holds Inv-loop μ-loop
-loop-holds c = (refl, omega arith, λ k l. absurd (omega arith))
-
 loop-less : tie.Need-loop-less Inv-loop μ-loop
 loop-less c = let L = c .before .loop in omega (arith, c .loop-test .taken, L .inv .0)
 
 loop-again : tie.Need-loop-again Inv-loop μ-loop
-loop-again c = let L = c .before .loop in (length-set (L .ring) (L .i) 0 ∙ L .inv .0, omega (arith, c .loop-test .taken, L .inv .0), stored-more (λ k o. o ≡ 0) (L .ring) (L .i) 0 (c .loop-test .taken) (L .inv .2) refl)
-
-same-length : tie.Need-same-length Inv-loop μ-loop
-same-length c = c .before .loop .inv .0
+loop-again c = let L = c .before .loop in (
+  length-set (L .ring) (L .i) 0
+      ∙ L .inv .0,
+  omega (arith, c .loop-test .taken, L .inv .0),
+  stored-more (λ k o. o ≡ 0) (L .ring) (L .i) 0 (c .loop-test .taken) (L .inv .2) refl,
+)
 
 returns : tie.Need-returns Inv-loop μ-loop
 returns c = λ p l. c .before .loop .inv .2 p (omega (arith, c .loop-test .left, c .before .loop .inv .0))
@@ -32,5 +31,5 @@ returns c = λ p l. c .before .loop .inv .2 p (omega (arith, c .loop-test .left,
 pub zero-spec : {M : Type 1} → statement M
 zero-spec =
     tie.close
-    (tie.spec Inv-loop μ-loop loop-holds (λ c. search needs) (λ c. search needs) (λ c. search needs) loop-less loop-again same-length
-    returns)
+    (tie.spec Inv-loop μ-loop (λ c. (refl, omega arith, λ k l. absurd (omega arith))) (λ c. search needs) (λ c. search needs) (λ c. search needs)
+    loop-less loop-again (λ c. c .before .loop .inv .0) returns)

@@ -1,7 +1,5 @@
 use Prim.Native.Nat.{_-_, _≤_}
-use lib.ListN.{length, length-set}
-use mathlib.Core.Path.{_≡_, refl, _∙_}
-use native.Mathlib.Omega.{arith}
+use lib.ListN.{length}
 use borrow.Author.Needs.{needs}
 use Rattle.pieces.proofs.show_bytes.Statement.{statement}
 use Rattle.pieces.proofs.show_bytes.Tie as tie

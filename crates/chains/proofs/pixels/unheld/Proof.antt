@@ -1,4 +1,4 @@
-use Rattle.chains.specs.Eight.{byte-in-plane, held-ring, held-low, held-below, unheld-up, unheld-above, pixel-is}
+use Rattle.chains.specs.NeighbourLaws.{byte-in-plane, held-ring, held-low, held-below, unheld-up, unheld-above, pixel-is}
 use Rattle.places.specs.Planes.{in-plane}
 use Rattle.places.specs.Rows.{area-fit, fit-of}
 use mathlib.Core.Path.{sym, _∙_}
@@ -10,64 +10,95 @@ use borrow.Author.Needs.{needs}
 use Rattle.chains.proofs.pixels.unheld.Statement.{statement}
 use Rattle.chains.proofs.pixels.unheld.Tie as tie
 
--- src/pixels.rt:60:14
 mul-if1 : tie.Need-mul-if1
-mul-if1 c = omega (arith, in-plane (c .before .before .before .before .before .args .w) (c .before .before .before .before .before .args .h) (c .before .before .before .before .before .args .r) (c .before .before .before .before .before .args .c) (c .before .before .before .before .before .pre .0 .1 .0) (c .before .before .before .before .before .pre .0 .1 .1), area-fit (c .before .before .before .before .before .args .w) (c .before .before .before .before .before .args .h) (c .before .before .before .before .before .pre .0 .0))
+mul-if1 c =
+    let b5 = c .before .before .before .before .before in let args = b5 .args in
+    omega (arith, in-plane (args .w) (args .h) (args .r) (args .c) (b5 .pre .0 .1 .0) (b5 .pre .0 .1 .1), area-fit (args .w) (args .h) (b5 .pre .0 .0))
 
--- src/pixels.rt:60:14
 add-if1 : tie.Need-add-if1
-add-if1 c = omega (arith, in-plane (c .before .before .before .before .before .args .w) (c .before .before .before .before .before .args .h) (c .before .before .before .before .before .args .r) (c .before .before .before .before .before .args .c) (c .before .before .before .before .before .pre .0 .1 .0) (c .before .before .before .before .before .pre .0 .1 .1), area-fit (c .before .before .before .before .before .args .w) (c .before .before .before .before .before .args .h) (c .before .before .before .before .before .pre .0 .0))
+add-if1 c =
+    let b5 = c .before .before .before .before .before in let args = b5 .args in
+    omega (arith, in-plane (args .w) (args .h) (args .r) (args .c) (b5 .pre .0 .1 .0) (b5 .pre .0 .1 .1), area-fit (args .w) (args .h) (b5 .pre .0 .0))
 
--- src/pixels.rt:60:8
 mul-if1-2 : tie.Need-mul-if1-2
-mul-if1-2 c = omega (arith, in-plane (c .before .before .before .before .before .args .w) (c .before .before .before .before .before .args .h) (c .before .before .before .before .before .args .r) (c .before .before .before .before .before .args .c) (c .before .before .before .before .before .pre .0 .1 .0) (c .before .before .before .before .before .pre .0 .1 .1), area-fit (c .before .before .before .before .before .args .w) (c .before .before .before .before .before .args .h) (c .before .before .before .before .before .pre .0 .0))
+mul-if1-2 c =
+    let b5 = c .before .before .before .before .before in let args = b5 .args in
+    omega (arith, in-plane (args .w) (args .h) (args .r) (args .c) (b5 .pre .0 .1 .0) (b5 .pre .0 .1 .1), area-fit (args .w) (args .h) (b5 .pre .0 .0))
 
--- src/pixels.rt:60:8
 shared-slice-read-if1 : tie.Need-shared-slice-read-if1
-shared-slice-read-if1 c = omega (arith, in-plane (c .before .before .before .before .before .before .args .w) (c .before .before .before .before .before .before .args .h) (c .before .before .before .before .before .before .args .r) (c .before .before .before .before .before .before .args .c) (c .before .before .before .before .before .before .pre .0 .1 .0) (c .before .before .before .before .before .before .pre .0 .1 .1), c .before .before .before .before .before .before .pre .1 .rings-long)
+shared-slice-read-if1 c =
+    let b6 = c .before .before .before .before .before .before in let args = b6 .args in
+    omega (arith, in-plane (args .w) (args .h) (args .r) (args .c) (b6 .pre .0 .1 .0) (b6 .pre .0 .1 .1), b6 .pre .1 .rings-long)
 
--- src/pixels.rt:61:9
 returns : tie.Need-returns
-returns c = held-ring (packed (c .before .before .before .before .before .before .before .args .w) (c .before .before .before .before .before .before .before .args .low .now)) (packed (c .before .before .before .before .before .before .before .args .w) (c .before .before .before .before .before .before .before .args .up .now)) (packed (c .before .before .before .before .before .before .before .args .w) (c .before .before .before .before .before .before .before .args .below .now)) (packed (c .before .before .before .before .before .before .before .args .w) (c .before .before .before .before .before .before .before .args .above .now)) (λ o. getD (c .before .before .before .before .before .before .before .args .rings .now) o 0) (c .before .before .before .before .before .before .before .args .r * c .before .before .before .before .before .before .before .args .w + c .before .before .before .before .before .before .before .args .c) (λ z. absurd (omega (arith, c .if1 .taken, z)))
+returns c =
+    let b7 = c .before .before .before .before .before .before .before in let args = b7 .args in
+    held-ring (packed (args .w) (args .low .now)) (packed (args .w) (args .up .now)) (packed (args .w) (args .below .now)) (packed (args .w) (args .above .now)) (λ o. getD (args .rings .now) o 0)
+    (args .r * args .w + args .c) (λ z. absurd (omega (arith, c .if1 .taken, z)))
 
--- src/pixels.rt:63:14
 mul-at : tie.Need-mul-at
-mul-at c = omega (arith, fit-of (c .before .before .before .before .before .before .before .before .args .r) (c .row-bytes .result) 256 32 (omega (arith, c .before .before .before .before .before .before .before .before .pre .0 .0 .h-high, c .before .before .before .before .before .before .before .before .pre .0 .1 .0)) (c .row-bytes .ensures .1))
+mul-at c =
+    let b8 = c .before .before .before .before .before .before .before .before in
+    omega (arith, fit-of (b8 .args .r) (c .row-bytes .result) 256 32 (omega (arith, b8 .pre .0 .0 .h-high, b8 .pre .0 .1 .0)) (c .row-bytes .ensures .1))
 
--- src/pixels.rt:64:8
 pixel-at-requires : tie.Need-pixel-at-requires
-pixel-at-requires c κs = byte-in-plane (c .before .before .before .before .before .before .before .before .args .w) (c .before .before .before .before .before .before .before .before .args .h) (c .before .before .before .before .before .before .before .before .args .r) (c .before .before .before .before .before .before .before .before .args .c) (c .row-bytes .result) _ (c .before .before .before .before .before .before .before .before .pre .0 .1 .0) (c .before .before .before .before .before .before .before .before .pre .0 .1 .1) (c .row-bytes .ensures .0) (c .before .before .before .before .before .before .before .before .pre .1 .low-long)
+pixel-at-requires c κs =
+    let b8 = c .before .before .before .before .before .before .before .before in let args = b8 .args in
+    byte-in-plane (args .w) (args .h) (args .r) (args .c) (c .row-bytes .result) _ (b8 .pre .0 .1 .0) (b8 .pre .0 .1 .1) (c .row-bytes .ensures .0) (b8 .pre .1 .low-long)
 
--- src/pixels.rt:65:9
 returns-2 : tie.Need-returns-2
-returns-2 c = held-low (packed (c .before .before .before .before .before .before .before .before .before .before .args .w) (c .before .before .before .before .before .before .before .before .before .before .args .low .now)) (packed (c .before .before .before .before .before .before .before .before .before .before .args .w) (c .before .before .before .before .before .before .before .before .before .before .args .up .now)) (packed (c .before .before .before .before .before .before .before .before .before .before .args .w) (c .before .before .before .before .before .before .before .before .before .before .args .below .now)) (packed (c .before .before .before .before .before .before .before .before .before .before .args .w) (c .before .before .before .before .before .before .before .before .before .before .args .above .now)) (λ o. getD (c .before .before .before .before .before .before .before .before .before .before .args .rings .now) o 0) (c .before .before .before .before .before .before .before .before .before .before .args .r * c .before .before .before .before .before .before .before .before .before .before .args .w + c .before .before .before .before .before .before .before .before .before .before .args .c) (pixel-is (c .before .before .before .before .before .before .before .before .before .before .args .w) (c .before .before .before .before .before .before .before .before .before .before .args .low .now) (c .before .before .before .before .before .before .before .before .before .before .args .r) (c .before .before .before .before .before .before .before .before .before .before .args .c) (c .before .before .row-bytes .result) _ (c .before .before .before .before .before .before .before .before .before .before .pre .0 .1 .1) (c .before .before .row-bytes .ensures .0) (c .before .pixel-at .ensures) ∙ c .if2 .taken)
+returns-2 c =
+    let b10 = c .before .before .before .before .before .before .before .before .before .before in let args = b10 .args in
+    held-low (packed (args .w) (args .low .now)) (packed (args .w) (args .up .now)) (packed (args .w) (args .below .now)) (packed (args .w) (args .above .now)) (λ o. getD (args .rings .now) o 0)
+    (args .r * args .w + args .c) (pixel-is (args .w) (args .low .now) (args .r) (args .c) (c .before .before .row-bytes .result) _ (b10 .pre .0 .1 .1)
+    (c .before .before .row-bytes .ensures .0) (c .before .pixel-at .ensures) ∙ c .if2 .taken)
 
--- src/pixels.rt:67:8
 pixel-at-requires-2 : tie.Need-pixel-at-requires-2
-pixel-at-requires-2 c κs = byte-in-plane (c .before .before .before .before .before .before .before .before .before .before .args .w) (c .before .before .before .before .before .before .before .before .before .before .args .h) (c .before .before .before .before .before .before .before .before .before .before .args .r) (c .before .before .before .before .before .before .before .before .before .before .args .c) (c .before .before .row-bytes .result) _ (c .before .before .before .before .before .before .before .before .before .before .pre .0 .1 .0) (c .before .before .before .before .before .before .before .before .before .before .pre .0 .1 .1) (c .before .before .row-bytes .ensures .0) (c .before .before .before .before .before .before .before .before .before .before .pre .1 .below-long)
+pixel-at-requires-2 c κs =
+    let b10 = c .before .before .before .before .before .before .before .before .before .before in let args = b10 .args in
+    byte-in-plane (args .w) (args .h) (args .r) (args .c) (c .before .before .row-bytes .result) _ (b10 .pre .0 .1 .0) (b10 .pre .0 .1 .1) (c .before .before .row-bytes .ensures .0)
+    (b10 .pre .1 .below-long)
 
--- src/pixels.rt:68:9
 returns-3 : tie.Need-returns-3
-returns-3 c = held-below (packed (c .before .before .before .before .before .before .before .before .before .before .before .before .args .w) (c .before .before .before .before .before .before .before .before .before .before .before .before .args .low .now)) (packed (c .before .before .before .before .before .before .before .before .before .before .before .before .args .w) (c .before .before .before .before .before .before .before .before .before .before .before .before .args .up .now)) (packed (c .before .before .before .before .before .before .before .before .before .before .before .before .args .w) (c .before .before .before .before .before .before .before .before .before .before .before .before .args .below .now)) (packed (c .before .before .before .before .before .before .before .before .before .before .before .before .args .w) (c .before .before .before .before .before .before .before .before .before .before .before .before .args .above .now)) (λ o. getD (c .before .before .before .before .before .before .before .before .before .before .before .before .args .rings .now) o 0) (c .before .before .before .before .before .before .before .before .before .before .before .before .args .r * c .before .before .before .before .before .before .before .before .before .before .before .before .args .w + c .before .before .before .before .before .before .before .before .before .before .before .before .args .c) (pixel-is (c .before .before .before .before .before .before .before .before .before .before .before .before .args .w) (c .before .before .before .before .before .before .before .before .before .before .before .before .args .below .now) (c .before .before .before .before .before .before .before .before .before .before .before .before .args .r) (c .before .before .before .before .before .before .before .before .before .before .before .before .args .c) (c .before .before .before .before .row-bytes .result) _ (c .before .before .before .before .before .before .before .before .before .before .before .before .pre .0 .1 .1) (c .before .before .before .before .row-bytes .ensures .0) (c .before .pixel-at2 .ensures) ∙ c .if3 .taken)
+returns-3 c =
+    let b4 = c .before .before .before .before in let b12 = b4 .before .before .before .before .before .before .before .before in let args = b12 .args in
+    held-below (packed (args .w) (args .low .now)) (packed (args .w) (args .up .now)) (packed (args .w) (args .below .now)) (packed (args .w) (args .above .now)) (λ o. getD (args .rings .now) o 0)
+    (args .r * args .w + args .c) (pixel-is (args .w) (args .below .now) (args .r) (args .c) (b4 .row-bytes .result) _ (b12 .pre .0 .1 .1) (b4 .row-bytes .ensures .0)
+    (c .before .pixel-at2 .ensures) ∙ c .if3 .taken)
 
--- src/pixels.rt:70:8
 pixel-at-requires-3 : tie.Need-pixel-at-requires-3
-pixel-at-requires-3 c κs = byte-in-plane (c .before .before .before .before .before .before .before .before .before .before .before .before .args .w) (c .before .before .before .before .before .before .before .before .before .before .before .before .args .h) (c .before .before .before .before .before .before .before .before .before .before .before .before .args .r) (c .before .before .before .before .before .before .before .before .before .before .before .before .args .c) (c .before .before .before .before .row-bytes .result) _ (c .before .before .before .before .before .before .before .before .before .before .before .before .pre .0 .1 .0) (c .before .before .before .before .before .before .before .before .before .before .before .before .pre .0 .1 .1) (c .before .before .before .before .row-bytes .ensures .0) (c .before .before .before .before .before .before .before .before .before .before .before .before .pre .1 .up-long)
+pixel-at-requires-3 c κs =
+    let b4 = c .before .before .before .before in let b12 = b4 .before .before .before .before .before .before .before .before in let args = b12 .args in
+    byte-in-plane (args .w) (args .h) (args .r) (args .c) (b4 .row-bytes .result) _ (b12 .pre .0 .1 .0) (b12 .pre .0 .1 .1) (b4 .row-bytes .ensures .0) (b12 .pre .1 .up-long)
 
--- src/pixels.rt:71:9
 returns-4 : tie.Need-returns-4
-returns-4 c = unheld-up (packed (c .before .before .before .before .before .before .before .before .before .before .before .before .before .before .args .w) (c .before .before .before .before .before .before .before .before .before .before .before .before .before .before .args .low .now)) (packed (c .before .before .before .before .before .before .before .before .before .before .before .before .before .before .args .w) (c .before .before .before .before .before .before .before .before .before .before .before .before .before .before .args .up .now)) (packed (c .before .before .before .before .before .before .before .before .before .before .before .before .before .before .args .w) (c .before .before .before .before .before .before .before .before .before .before .before .before .before .before .args .below .now)) (packed (c .before .before .before .before .before .before .before .before .before .before .before .before .before .before .args .w) (c .before .before .before .before .before .before .before .before .before .before .before .before .before .before .args .above .now)) (λ o. getD (c .before .before .before .before .before .before .before .before .before .before .before .before .before .before .args .rings .now) o 0) (c .before .before .before .before .before .before .before .before .before .before .before .before .before .before .args .r * c .before .before .before .before .before .before .before .before .before .before .before .before .before .before .args .w + c .before .before .before .before .before .before .before .before .before .before .before .before .before .before .args .c) (omega arith) (pixel-is (c .before .before .before .before .before .before .before .before .before .before .before .before .before .before .args .w) (c .before .before .before .before .before .before .before .before .before .before .before .before .before .before .args .low .now) (c .before .before .before .before .before .before .before .before .before .before .before .before .before .before .args .r) (c .before .before .before .before .before .before .before .before .before .before .before .before .before .before .args .c) (c .before .before .before .before .before .before .row-bytes .result) _ (c .before .before .before .before .before .before .before .before .before .before .before .before .before .before .pre .0 .1 .1) (c .before .before .before .before .before .before .row-bytes .ensures .0) (c .before .before .before .before .before .pixel-at .ensures) ∙ c .before .before .before .before .if2 .left) (pixel-is (c .before .before .before .before .before .before .before .before .before .before .before .before .before .before .args .w) (c .before .before .before .before .before .before .before .before .before .before .before .before .before .before .args .below .now) (c .before .before .before .before .before .before .before .before .before .before .before .before .before .before .args .r) (c .before .before .before .before .before .before .before .before .before .before .before .before .before .before .args .c) (c .before .before .before .before .before .before .row-bytes .result) _ (c .before .before .before .before .before .before .before .before .before .before .before .before .before .before .pre .0 .1 .1) (c .before .before .before .before .before .before .row-bytes .ensures .0) (c .before .before .before .pixel-at2 .ensures) ∙ c .before .before .if3 .left) (pixel-is (c .before .before .before .before .before .before .before .before .before .before .before .before .before .before .args .w) (c .before .before .before .before .before .before .before .before .before .before .before .before .before .before .args .up .now) (c .before .before .before .before .before .before .before .before .before .before .before .before .before .before .args .r) (c .before .before .before .before .before .before .before .before .before .before .before .before .before .before .args .c) (c .before .before .before .before .before .before .row-bytes .result) _ (c .before .before .before .before .before .before .before .before .before .before .before .before .before .before .pre .0 .1 .1) (c .before .before .before .before .before .before .row-bytes .ensures .0) (c .before .pixel-at3 .ensures) ∙ c .if4 .taken)
+returns-4 c =
+    let b3 = c .before .before .before in let b4 = b3 .before in let b5 = b4 .before in let b6 = b5 .before in
+    let b14 = b6 .before .before .before .before .before .before .before .before in let args = b14 .args in
+    unheld-up (packed (args .w) (args .low .now)) (packed (args .w) (args .up .now)) (packed (args .w) (args .below .now)) (packed (args .w) (args .above .now)) (λ o. getD (args .rings .now) o 0)
+    (args .r * args .w + args .c) (omega arith) (pixel-is (args .w) (args .low .now) (args .r) (args .c) (b6 .row-bytes .result) _ (b14 .pre .0 .1 .1) (b6 .row-bytes .ensures .0)
+    (b5 .pixel-at .ensures) ∙ b4 .if2 .left) (pixel-is (args .w) (args .below .now) (args .r) (args .c) (b6 .row-bytes .result) _ (b14 .pre .0 .1 .1) (b6 .row-bytes .ensures .0)
+    (b3 .pixel-at2 .ensures) ∙ c .before .before .if3 .left)
+    (pixel-is (args .w) (args .up .now) (args .r) (args .c) (b6 .row-bytes .result) _ (b14 .pre .0 .1 .1) (b6 .row-bytes .ensures .0) (c .before .pixel-at3 .ensures) ∙ c .if4 .taken)
 
--- src/pixels.rt:73:5
 pixel-at-requires-4 : tie.Need-pixel-at-requires-4
-pixel-at-requires-4 c κs = byte-in-plane (c .before .before .before .before .before .before .before .before .before .before .before .before .before .before .args .w) (c .before .before .before .before .before .before .before .before .before .before .before .before .before .before .args .h) (c .before .before .before .before .before .before .before .before .before .before .before .before .before .before .args .r) (c .before .before .before .before .before .before .before .before .before .before .before .before .before .before .args .c) (c .before .before .before .before .before .before .row-bytes .result) _ (c .before .before .before .before .before .before .before .before .before .before .before .before .before .before .pre .0 .1 .0) (c .before .before .before .before .before .before .before .before .before .before .before .before .before .before .pre .0 .1 .1) (c .before .before .before .before .before .before .row-bytes .ensures .0) (c .before .before .before .before .before .before .before .before .before .before .before .before .before .before .pre .1 .above-long)
+pixel-at-requires-4 c κs =
+    let b6 = c .before .before .before .before .before .before in let b14 = b6 .before .before .before .before .before .before .before .before in let args = b14 .args in
+    byte-in-plane (args .w) (args .h) (args .r) (args .c) (b6 .row-bytes .result) _ (b14 .pre .0 .1 .0) (b14 .pre .0 .1 .1) (b6 .row-bytes .ensures .0) (b14 .pre .1 .above-long)
 
--- src/pixels.rt:45:1
 returns-5 : tie.Need-returns-5
-returns-5 c = sym (pixel-is (c .before .before .before .before .before .before .before .before .before .before .before .before .before .before .before .args .w) (c .before .before .before .before .before .before .before .before .before .before .before .before .before .before .before .args .above .now) (c .before .before .before .before .before .before .before .before .before .before .before .before .before .before .before .args .r) (c .before .before .before .before .before .before .before .before .before .before .before .before .before .before .before .args .c) (c .before .before .before .before .before .before .before .row-bytes .result) _ (c .before .before .before .before .before .before .before .before .before .before .before .before .before .before .before .pre .0 .1 .1) (c .before .before .before .before .before .before .before .row-bytes .ensures .0) (c .pixel-at4 .ensures)) ∙ unheld-above (packed (c .before .before .before .before .before .before .before .before .before .before .before .before .before .before .before .args .w) (c .before .before .before .before .before .before .before .before .before .before .before .before .before .before .before .args .low .now)) (packed (c .before .before .before .before .before .before .before .before .before .before .before .before .before .before .before .args .w) (c .before .before .before .before .before .before .before .before .before .before .before .before .before .before .before .args .up .now)) (packed (c .before .before .before .before .before .before .before .before .before .before .before .before .before .before .before .args .w) (c .before .before .before .before .before .before .before .before .before .before .before .before .before .before .before .args .below .now)) (packed (c .before .before .before .before .before .before .before .before .before .before .before .before .before .before .before .args .w) (c .before .before .before .before .before .before .before .before .before .before .before .before .before .before .before .args .above .now)) (λ o. getD (c .before .before .before .before .before .before .before .before .before .before .before .before .before .before .before .args .rings .now) o 0) (c .before .before .before .before .before .before .before .before .before .before .before .before .before .before .before .args .r * c .before .before .before .before .before .before .before .before .before .before .before .before .before .before .before .args .w + c .before .before .before .before .before .before .before .before .before .before .before .before .before .before .before .args .c) (omega arith) (pixel-is (c .before .before .before .before .before .before .before .before .before .before .before .before .before .before .before .args .w) (c .before .before .before .before .before .before .before .before .before .before .before .before .before .before .before .args .low .now) (c .before .before .before .before .before .before .before .before .before .before .before .before .before .before .before .args .r) (c .before .before .before .before .before .before .before .before .before .before .before .before .before .before .before .args .c) (c .before .before .before .before .before .before .before .row-bytes .result) _ (c .before .before .before .before .before .before .before .before .before .before .before .before .before .before .before .pre .0 .1 .1) (c .before .before .before .before .before .before .before .row-bytes .ensures .0) (c .before .before .before .before .before .before .pixel-at .ensures) ∙ c .before .before .before .before .before .if2 .left) (pixel-is (c .before .before .before .before .before .before .before .before .before .before .before .before .before .before .before .args .w) (c .before .before .before .before .before .before .before .before .before .before .before .before .before .before .before .args .below .now) (c .before .before .before .before .before .before .before .before .before .before .before .before .before .before .before .args .r) (c .before .before .before .before .before .before .before .before .before .before .before .before .before .before .before .args .c) (c .before .before .before .before .before .before .before .row-bytes .result) _ (c .before .before .before .before .before .before .before .before .before .before .before .before .before .before .before .pre .0 .1 .1) (c .before .before .before .before .before .before .before .row-bytes .ensures .0) (c .before .before .before .before .pixel-at2 .ensures) ∙ c .before .before .before .if3 .left) (pixel-is (c .before .before .before .before .before .before .before .before .before .before .before .before .before .before .before .args .w) (c .before .before .before .before .before .before .before .before .before .before .before .before .before .before .before .args .up .now) (c .before .before .before .before .before .before .before .before .before .before .before .before .before .before .before .args .r) (c .before .before .before .before .before .before .before .before .before .before .before .before .before .before .before .args .c) (c .before .before .before .before .before .before .before .row-bytes .result) _ (c .before .before .before .before .before .before .before .before .before .before .before .before .before .before .before .pre .0 .1 .1) (c .before .before .before .before .before .before .before .row-bytes .ensures .0) (c .before .before .pixel-at3 .ensures) ∙ c .before .if4 .left)
+returns-5 c =
+    let b3 = c .before .before .before in let b4 = b3 .before in let b5 = b4 .before in let b6 = b5 .before in let b7 = b6 .before in
+    let b15 = b7 .before .before .before .before .before .before .before .before in let args = b15 .args in let pre = b15 .pre in
+    sym (pixel-is (args .w) (args .above .now) (args .r) (args .c) (b7 .row-bytes .result) _ (pre .0 .1 .1) (b7 .row-bytes .ensures .0) (c .pixel-at4 .ensures))
+    ∙ unheld-above (packed (args .w) (args .low .now)) (packed (args .w) (args .up .now)) (packed (args .w) (args .below .now)) (packed (args .w) (args .above .now))
+    (λ o. getD (args .rings .now) o 0) (args .r * args .w + args .c) (omega arith)
+    (pixel-is (args .w) (args .low .now) (args .r) (args .c) (b7 .row-bytes .result) _ (pre .0 .1 .1) (b7 .row-bytes .ensures .0) (b6 .pixel-at .ensures) ∙ b5 .if2 .left)
+    (pixel-is (args .w) (args .below .now) (args .r) (args .c) (b7 .row-bytes .result) _ (pre .0 .1 .1) (b7 .row-bytes .ensures .0) (b4 .pixel-at2 .ensures) ∙ b3 .if3 .left)
+    (pixel-is (args .w) (args .up .now) (args .r) (args .c) (b7 .row-bytes .result) _ (pre .0 .1 .1) (b7 .row-bytes .ensures .0) (c .before .before .pixel-at3 .ensures) ∙ c .before .if4 .left)
 
 pub unheld-spec : {M : Type 1} → statement M
 unheld-spec =
     tie.close
-    (tie.spec mul-if1 add-if1 mul-if1-2 shared-slice-read-if1 returns (λ c κs. search needs) mul-at pixel-at-requires returns-2
-    pixel-at-requires-2 returns-3 pixel-at-requires-3 returns-4 pixel-at-requires-4 returns-5)
+    (tie.spec mul-if1 add-if1 mul-if1-2 shared-slice-read-if1 returns (λ c κs. search needs) mul-at pixel-at-requires returns-2 pixel-at-requires-2
+    returns-3 pixel-at-requires-3 returns-4 pixel-at-requires-4 returns-5)

@@ -9,32 +9,34 @@ use borrow.Author.Needs.{needs}
 use Rattle.chains.proofs.search.in_pair.Statement.{statement}
 use Rattle.chains.proofs.search.in_pair.Tie as tie
 
--- src/search.rt:120:9
 pair-requires : tie.Need-pair-requires
-pair-requires c κs = ((c .before .before .before .before .before .before .before .pre .0 .0, (c .before .before .before .before .before .before .before .pre .0 .1, c .before .before .before .before .before .before .before .pre .1 .0 .rings-long)), (planes-long (c .before .before .before .before .before .before .before .pre .1 .0), c .before .before .before .before .before .before .before .pre .1 .1))
+pair-requires c κs =
+    let b7 = c .before .before .before .before .before .before .before in let pre = b7 .pre in
+    ((pre .0 .0, (pre .0 .1, pre .1 .0 .rings-long)), (planes-long (pre .1 .0), pre .1 .1))
 
--- src/search.rt:122:16
 mul-result : tie.Need-mul-result
-mul-result c = omega (arith, area-fit (c .before .before .before .before .before .before .before .before .before .before .args .w) (c .before .before .before .before .before .before .before .before .before .before .args .h) (c .before .before .before .before .before .before .before .before .before .before .pre .0 .0 .0))
+mul-result c =
+    let b10 = c .before .before .before .before .before .before .before .before .before .before in
+    omega (arith, area-fit (b10 .args .w) (b10 .args .h) (b10 .pre .0 .0 .0))
 
--- src/search.rt:122:9
 returns : tie.Need-returns
-returns c = least-none 0 (c .before .before .before .before .before .before .before .before .before .before .args .h * c .before .before .before .before .before .before .before .before .before .before .args .w) _ (omega arith) (sure-none (c .before .before .before .before .before .before .before .before .before .before .args .ringed) (c .before .before .before .before .before .before .before .before .before .before .args .w) (c .before .before .before .before .before .before .before .before .before .before .args .h) (c .before .before .before .before .before .before .before .before .before .before .args .q .0) (c .before .before .before .before .before .before .before .before .before .before .args .low .now) (c .before .before .before .before .before .before .before .before .before .before .args .up .now) (c .before .before .before .before .before .before .before .before .before .before .args .below .now) (c .before .before .before .before .before .before .before .before .before .before .args .above .now) (c .before .before .before .before .before .before .before .before .before .before .args .rings .now) (c .before .before .pair .result) (sym (c .before .sure .ensures) ∙ c .if1 .taken) (c .before .before .pair .ensures .0) (c .before .before .pair .ensures .1))
+returns c =
+    let b2 = c .before .before in let b10 = b2 .before .before .before .before .before .before .before .before in let args = b10 .args in
+    least-none 0 (args .h * args .w) _ (omega arith) (sure-none (args .ringed) (args .w) (args .h) (args .q .0) (args .low .now) (args .up .now) (args .below .now) (args .above .now)
+    (args .rings .now) (b2 .pair .result) (sym (c .before .sure .ensures) ∙ c .if1 .taken) (b2 .pair .ensures .0) (b2 .pair .ensures .1))
 
--- src/search.rt:125:5
 read-requires : tie.Need-read-requires
-read-requires c κs = (c .before .before .before .before .before .before .before .before .before .before .before .pre .0 .0 .0, (c .before .before .before .before .before .before .before .before .before .before .before .pre .0 .1, zero-ready (c .before .before .before .before .before .before .before .before .before .before .before .args .w) (c .before .before .before .before .before .before .before .before .before .before .before .args .h)))
+read-requires c κs =
+    let b11 = c .before .before .before .before .before .before .before .before .before .before .before in
+    (b11 .pre .0 .0 .0, (b11 .pre .0 .1, zero-ready (b11 .args .w) (b11 .args .h)))
 
--- src/search.rt:126:5
 in-rows-requires : tie.Need-in-rows-requires
-in-rows-requires c κs = ((c .before .before .before .before .before .before .before .before .before .before .before .before .before .before .pre .0 .0 .0, c .before .before .before .before .before .before .before .before .before .before .before .before .before .before .pre .0 .0 .1 .1), ((c .before .before .before .before .before .before .before .before .before .before .before .before .before .before .pre .1 .0, c .before .before .read .ensures), c .before .before .before .before .before .before .before .before .before .before .before .before .before .before .pre .1 .1 .1))
-
--- src/search.rt:103:1
-returns-2 : tie.Need-returns-2
-returns-2 c = c .in-rows .ensures
+in-rows-requires c κs =
+    let b14 = c .before .before .before .before .before .before .before .before .before .before .before .before .before .before in let pre = b14 .pre in
+    ((pre .0 .0 .0, pre .0 .0 .1 .1), ((pre .1 .0, c .before .before .read .ensures), pre .1 .1 .1))
 
 pub in-pair-spec : {M : Type 1} → statement M
 in-pair-spec =
     tie.close
     (tie.spec pair-requires (λ c κs. search needs) mul-result returns (λ c. search needs) read-requires (λ c. search needs) in-rows-requires
-    returns-2)
+    (λ c. c .in-rows .ensures))

@@ -1,13 +1,14 @@
 use Rattle.chains.specs.Amiss.{close-row}
 use Rattle.words.specs.Words.{column}
-use native.Mathlib.Omega.{arith}
 use borrow.Author.Needs.{needs}
 use Rattle.chains.proofs.search.in_row.Statement.{statement}
 use Rattle.chains.proofs.search.in_row.Tie as tie
 
--- src/search.rt:44:1
 returns : tie.Need-returns
-returns c = c .in-columns .ensures (c .before .before .before .before .before .before .before .before .before .before .before .before .before .args .q .0) (close-row (c .before .before .before .before .before .before .before .before .before .before .before .before .before .args .w) (c .before .before .before .before .before .before .before .before .before .before .before .before .before .args .h) (c .before .before .before .before .before .before .before .before .before .before .before .before .before .args .q .0) (c .before .before .before .before .before .before .before .before .before .before .before .before .before .args .r) (c .before .before .before .before .before .before .before .before .before .before .before .before .before .args .low .now) (c .before .before .before .before .before .before .before .before .before .before .before .before .before .args .disc .now) (column (c .before .before .before .before .near-row .result)) _ _ (c .before .before .before .before .before .before .before .before .before .before .before .before .before .pre .0 .0 .0) (c .before .before .before .before .before .before .before .before .before .before .before .before .before .pre .0 .0 .1) (c .before .before .before .before .before .before .before .before .before .before .before .before .before .pre .1 .0 .1) (c .before .before .before .before .near-row .ensures) (c .before .before .before .put .ensures))
+returns c =
+    let b3 = c .before .before .before in let b4 = b3 .before in let b13 = b4 .before .before .before .before .before .before .before .before .before in let args = b13 .args in
+    c .in-columns .ensures (args .q .0) (close-row (args .w) (args .h) (args .q .0) (args .r) (args .low .now) (args .disc .now) (column (b4 .near-row .result)) _ _ (b13 .pre .0 .0 .0)
+    (b13 .pre .0 .0 .1) (b13 .pre .1 .0 .1) (b4 .near-row .ensures) (b3 .put .ensures))
 
 pub in-row-spec : {M : Type 1} → statement M
 in-row-spec =

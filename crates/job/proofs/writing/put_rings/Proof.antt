@@ -8,7 +8,9 @@ use Rattle.job.proofs.writing.put_rings.Statement.{statement}
 use Rattle.job.proofs.writing.put_rings.Tie as tie
 
 returns : tie.Need-returns
-returns c = counted _ _ _ _ (c .before .before .before .before .before .before .before .before .before .before .args .at) _ _ (c .before .before .before .before .before .before .put32 .ensures) (c .before .before .put16s .ensures) (ap (λ (k : ℕ). c .before .before .before .before .before .before .before .before .before .before .args .at + 4 + k) (sym (length-put16s (now (c .before .before .before .before .before .before .before .before .before .before .args .src))))) (c .before .before .before .before .before .before .before .before .before .before .pre)
+returns c =
+    let b6 = c .before .before .before .before .before .before in let b10 = b6 .before .before .before .before in
+    counted _ _ _ _ (b10 .args .at) _ _ (b6 .put32 .ensures) (c .before .before .put16s .ensures) (ap (λ (k : ℕ). b10 .args .at + 4 + k) (sym (length-put16s (now (b10 .args .src))))) (b10 .pre)
 
 pub put-rings-spec : {M : Type 1} → statement M
 put-rings-spec =

@@ -5,7 +5,9 @@ use Rattle.job.proofs.writing.put_rows.Statement.{statement}
 use Rattle.job.proofs.writing.put_rows.Tie as tie
 
 returns : tie.Need-returns
-returns c = counted _ _ _ _ (c .before .before .before .before .before .before .before .before .before .before .args .at) (c .before .before .before .before .before .before .before .before .before .before .args .count) _ (c .before .before .before .before .before .before .put32 .ensures) (c .before .before .put-bytes .ensures) refl (c .before .before .before .before .before .before .before .before .before .before .pre)
+returns c =
+    let b6 = c .before .before .before .before .before .before in let b10 = b6 .before .before .before .before in
+    counted _ _ _ _ (b10 .args .at) (b10 .args .count) _ (b6 .put32 .ensures) (c .before .before .put-bytes .ensures) refl (b10 .pre)
 
 pub put-rows-spec : {M : Type 1} → statement M
 put-rows-spec =

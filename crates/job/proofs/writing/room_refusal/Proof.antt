@@ -16,4 +16,6 @@ unfolding writeRoom
 returns-3 c = simp (le-ltb _ _ (c .before .if1 .left), le-ltb _ _ (c .if2 .left))
 
 pub room-refusal-spec : {M : Type 1} → statement M
-room-refusal-spec = tie.close (tie.spec returns returns-2 returns-3)
+room-refusal-spec =
+    tie.close
+    (tie.spec returns returns-2 returns-3)

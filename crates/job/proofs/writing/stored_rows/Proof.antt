@@ -14,4 +14,6 @@ unfolding storedRows
 returns-2 c = (simp (ne-eqb _ _ (c .before .if1 .left)) (c .rows-of .ensures .0), c .rows-of .ensures .1)
 
 pub stored-rows-spec : {M : Type 1} → statement M
-stored-rows-spec = tie.close (tie.spec (λ c κs. search needs) returns returns-2)
+stored-rows-spec =
+    tie.close
+    (tie.spec (λ c κs. search needs) returns returns-2)

@@ -1,14 +1,14 @@
 use lib.Bits.{and-mask}
 use Rattle.words.specs.Words.{bitOfWord, place}
-use native.Mathlib.Omega.{arith}
 use borrow.Author.Needs.{needs}
 use Rattle.leans.proofs.bits.bit.Statement.{statement}
 use Rattle.leans.proofs.bits.bit.Tie as tie
 
--- src/bits.rt:10:1
 returns : tie.Need-returns
 unfolding bitOfWord place
 returns c = rw (and-mask _ 1)
 
 pub bit-spec : {M : Type 1} → statement M
-bit-spec = tie.close (tie.spec (λ c. search needs) (λ c. search needs) returns)
+bit-spec =
+    tie.close
+    (tie.spec (λ c. search needs) (λ c. search needs) returns)

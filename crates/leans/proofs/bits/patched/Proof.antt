@@ -1,5 +1,4 @@
 use Rattle.leans.specs.BitLaws.{patched-bit}
-use native.Mathlib.Omega.{arith}
 use borrow.Author.Needs.{needs}
 use Rattle.leans.proofs.bits.patched.Statement.{statement}
 use Rattle.leans.proofs.bits.patched.Tie as tie

@@ -13,27 +13,20 @@ Inv-loop rings ones x m b k₀ k = (b ≤ k) × (k ≤ 8) × ((j : ℕ) → b �
 abbrev μ-loop : tie.MeasureT-loop
 μ-loop rings ones x m b k₀ k = 8 - k
 
-loop-holds : tie.Need-loop-holds Inv-loop μ-loop
-loop-holds c = (omega arith, omega arith, λ j lo hi. absurd (omega arith))
-
-returns : tie.Need-returns Inv-loop μ-loop
-returns c = c .before .before .before .before .loop .inv
-
 loop-again : tie.Need-loop-again Inv-loop μ-loop
 loop-again c =
-    let a = c .before .before .before .before .before .before .before .args in
-    let l = c .before .before .before .before .loop in (
+    let b4 = c .before .before .before .before in let b7 = b4 .before .before .before in
+    let a = b7 .args in
+    let l = b4 .loop in (
       omega arith,
       omega arith,
       all-more (Alike (a .rings .now) (a .x) (a .m)) (a .b) (l .k) (l .inv .2)
           (alike-byte (a .rings .now) (a .x) (a .m) (l .k) (c .before .before .byte .result) (c .before .before .byte .ensures) (c .before .alike .ensures (not-false _ (c .if1 .left)))),
     )
 
-returns-2 : tie.Need-returns-2 Inv-loop μ-loop
-returns-2 c = c .before .loop .inv
-
 pub unlike-spec : {M : Type 1} → statement M
 unlike-spec =
     tie.close
-    (tie.spec Inv-loop μ-loop loop-holds (λ c. search needs) (λ c. search needs) (λ c κs. search needs) (λ c κs. search needs) returns
-    (λ c. search needs) (λ c. search needs) loop-again returns-2)
+    (tie.spec Inv-loop μ-loop (λ c. (omega arith, omega arith, λ j lo hi. absurd (omega arith))) (λ c. search needs) (λ c. search needs)
+    (λ c κs. search needs) (λ c κs. search needs) (λ c. c .before .before .before .before .loop .inv) (λ c. search needs) (λ c. search needs) loop-again
+    (λ c. c .before .loop .inv))

@@ -14,7 +14,11 @@ quiet-requires : tie.Need-quiet-requires
 quiet-requires c κs = omega (arith, rows-end (c .before .args .a) (c .before .args .b) (c .before .args .w) (c .before .pre .0))
 
 returns : tie.Need-returns
-returns c = λ e. quiet-rows (c .before .before .args .w) (c .before .before .args .a) (c .before .before .args .b) (c .before .before .args .rings .now) (c .quiet .ensures e)
+returns c =
+    let b2 = c .before .before in let args = b2 .args in
+    λ e. quiet-rows (args .w) (args .a) (args .b) (args .rings .now) (c .quiet .ensures e)
 
 pub bare-spec : {M : Type 1} → statement M
-bare-spec = tie.close (tie.spec mul-quiet (λ c. search needs) mul-quiet-2 quiet-requires returns)
+bare-spec =
+    tie.close
+    (tie.spec mul-quiet (λ c. search needs) mul-quiet-2 quiet-requires returns)

@@ -12,17 +12,13 @@ Inv-loop rings x n all₀ j₀ all j = (j ≤ n) × ((k : ℕ) → k < j → get
 abbrev μ-loop : tie.MeasureT-loop
 μ-loop rings x n all₀ j₀ all j = n - j
 
-loop-holds : tie.Need-loop-holds Inv-loop μ-loop
-loop-holds c = (omega arith, λ k l. absurd (omega arith))
-
 loop-again : tie.Need-loop-again Inv-loop μ-loop
-loop-again c = (omega arith, gathered-more (λ k. getD (c .before .before .before .args .rings .now) (c .before .before .before .args .x + k) 0) (c .before .before .loop .j) (c .before .before .loop .all) (c .before .before .loop .inv .1))
-
-returns : tie.Need-returns Inv-loop μ-loop
-returns c = λ k l. c .before .loop .inv .1 k (omega arith)
+loop-again c =
+    let b2 = c .before .before in let b3 = b2 .before in
+    (omega arith, gathered-more (λ k. getD (b3 .args .rings .now) (b3 .args .x + k) 0) (b2 .loop .j) (b2 .loop .all) (b2 .loop .inv .1))
 
 pub gather-spec : {M : Type 1} → statement M
 gather-spec =
     tie.close
-    (tie.spec Inv-loop μ-loop loop-holds (λ c. search needs) (λ c. search needs) (λ c. search needs) (λ c. search needs) (λ c. search needs)
-    loop-again returns)
+    (tie.spec Inv-loop μ-loop (λ c. (omega arith, λ k l. absurd (omega arith))) (λ c. search needs) (λ c. search needs) (λ c. search needs)
+    (λ c. search needs) (λ c. search needs) loop-again (λ c. λ k l. c .before .loop .inv .1 k (omega arith)))

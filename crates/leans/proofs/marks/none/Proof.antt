@@ -11,4 +11,6 @@ returns-2 : tie.Need-returns-2
 returns-2 c = λ e j l. let m = c .gather2 .ensures j l in let z = eqb-true (c .gather2 .result) 0 e in omega arith
 
 pub none-spec : {M : Type 1} → statement M
-none-spec = tie.close (tie.spec (λ c κs. search needs) returns (λ c κs. search needs) returns-2)
+none-spec =
+    tie.close
+    (tie.spec (λ c κs. search needs) returns (λ c κs. search needs) returns-2)

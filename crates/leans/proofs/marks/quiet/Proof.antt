@@ -14,19 +14,19 @@ Inv-loop rings x n all₀ j₀ all j = (j ≤ n) × (all ≡ 0 → (k : ℕ) →
 abbrev μ-loop : tie.MeasureT-loop
 μ-loop rings x n all₀ j₀ all j = n - j
 
-loop-holds : tie.Need-loop-holds Inv-loop μ-loop
-loop-holds c = (omega arith, λ e k l. absurd (omega arith))
-
 loop-again : tie.Need-loop-again Inv-loop μ-loop
-loop-again c = let l = c .before .before .loop in (omega arith, quiet-more (c .before .before .before .before .args .rings .now) (c .before .before .before .before .args .x) (l .j) 256 (l .all) _ (l .inv .1) (c .gather .ensures))
+loop-again c =
+    let b4 = c .before .before .before .before in
+    let l = c .before .before .loop in (omega arith, quiet-more (b4 .args .rings .now) (b4 .args .x) (l .j) 256 (l .all) _ (l .inv .1) (c .gather .ensures))
 
 returns : tie.Need-returns Inv-loop μ-loop
 returns c =
+    let b4 = c .before .before .before .before in
     let l = c .before .before .loop in
-    λ e k h. quiet-more (c .before .before .before .before .args .rings .now) (c .before .before .before .before .args .x) (l .j) (c .before .before .before .before .args .n - l .j) (l .all) _ (l .inv .1) (c .gather2 .ensures) (eqb-true _ 0 e) k (omega arith)
+    λ e k h. quiet-more (b4 .args .rings .now) (b4 .args .x) (l .j) (b4 .args .n - l .j) (l .all) _ (l .inv .1) (c .gather2 .ensures) (eqb-true _ 0 e) k (omega arith)
 
 pub quiet-spec : {M : Type 1} → statement M
 quiet-spec =
     tie.close
-    (tie.spec Inv-loop μ-loop loop-holds (λ c. search needs) (λ c. search needs) (λ c κs. omega arith) (λ c. search needs) (λ c. search needs)
-    loop-again (λ c. search needs) (λ c. search needs) (λ c κs. omega arith) returns)
+    (tie.spec Inv-loop μ-loop (λ c. (omega arith, λ e k l. absurd (omega arith))) (λ c. search needs) (λ c. search needs) (λ c κs. omega arith)
+    (λ c. search needs) (λ c. search needs) loop-again (λ c. search needs) (λ c. search needs) (λ c κs. omega arith) returns)

@@ -7,14 +7,10 @@ use borrow.Author.Needs.{needs}
 use Rattle.leans.proofs.steps.inside.Statement.{statement}
 use Rattle.leans.proofs.steps.inside.Tie as tie
 
-returns : tie.Need-returns
-returns c = λ e. clash e refl
-
-returns-2 : tie.Need-returns-2
-returns-2 c = λ e. clash e refl
-
 returns-3 : tie.Need-returns-3
 returns-3 c = λ e. let l = ltb-true (c .before .before .args .x) (c .before .before .args .n - 1) e in (omega arith, omega arith)
 
 pub inside-spec : {M : Type 1} → statement M
-inside-spec = tie.close (tie.spec returns returns-2 (λ c. search needs) returns-3)
+inside-spec =
+    tie.close
+    (tie.spec (λ c. λ e. clash e refl) (λ c. λ e. clash e refl) (λ c. search needs) returns-3)

@@ -37,13 +37,19 @@ loop-holds c = (
 )
 
 add-v : tie.Need-add-v Inv-loop μ-loop
-add-v c = let p = c .before .before .before .pre in omega (arith, step-fits (c .before .before .before .args .w) (c .before .before .before .args .h) (c .before .before .before .args .r) 0 (p .0 .0) (p .1 .0) (p .0 .0 .w-low), p .0 .0 .w-high)
+add-v c =
+    let b3 = c .before .before .before in
+    let p = b3 .pre in omega (arith, step-fits (b3 .args .w) (b3 .args .h) (b3 .args .r) 0 (p .0 .0) (p .1 .0) (p .0 .0 .w-low), p .0 .0 .w-high)
 
 mul-v : tie.Need-mul-v Inv-loop μ-loop
-mul-v c = let p = c .before .before .before .pre in omega (arith, step-fits (c .before .before .before .args .w) (c .before .before .before .args .h) (c .before .before .before .args .r) 0 (p .0 .0) (p .1 .0) (p .0 .0 .w-low), p .0 .0 .w-high)
+mul-v c =
+    let b3 = c .before .before .before in
+    let p = b3 .pre in omega (arith, step-fits (b3 .args .w) (b3 .args .h) (b3 .args .r) 0 (p .0 .0) (p .1 .0) (p .0 .0 .w-low), p .0 .0 .w-high)
 
 shared-slice-read-v : tie.Need-shared-slice-read-v Inv-loop μ-loop
-shared-slice-read-v c = let a = c .before .before .before .before .args in omega (arith, in-plane (a .w) (a .h) (a .r) (a .x + c .before .before .loop .k) (c .before .before .before .before .pre .1 .0) (omega arith))
+shared-slice-read-v c =
+    let b4 = c .before .before .before .before in
+    let a = b4 .args in omega (arith, in-plane (a .w) (a .h) (a .r) (a .x + c .before .before .loop .k) (b4 .pre .1 .0) (omega arith))
 
 loop-again : tie.Need-loop-again Inv-loop μ-loop
 loop-again c =
@@ -59,21 +65,25 @@ loop-again c =
     )
 
 good-requires : tie.Need-good-requires Inv-loop μ-loop
-good-requires c κs = ((c .before .before .before .before .before .pre .0, (c .before .before .before .before .before .pre .1 .0, (omega arith, omega arith))), ap (λ (p : ℕ). getD (c .before .before .before .before .before .args .rings .now) p 0) (omega arith))
+good-requires c κs =
+    let b5 = c .before .before .before .before .before in
+    ((b5 .pre .0, (b5 .pre .1 .0, (omega arith, omega arith))), ap (λ (p : ℕ). getD (b5 .args .rings .now) p 0) (omega arith))
 
 returns : tie.Need-returns Inv-loop μ-loop
 returns c = record { fine = λ e. clash e refl; gets = λ e. clash e refl; most = λ e. clash e refl }
 
 loop-again-2 : tie.Need-loop-again-2 Inv-loop μ-loop
 loop-again-2 c =
-    let a = c .before .before .before .before .before .before .before .before .args in
-    let l = c .before .before .before .before .before .before .loop in
+    let b3 = c .before .before .before in let b6 = b3 .before .before .before in let b8 = b6 .before .before in
+    let a = b8 .args in
+    let l = b6 .loop in
     let z : getD (a .rings .now) (a .r * a .w + a .x + l .k) 0 ≡ getD (a .rings .now) (a .r * a .w + (a .x + l .k)) 0 = ap (λ (p : ℕ). getD (a .rings .now) p 0) (omega arith) in
     let G : ℕ → Type 0 = λ j. Good (a .w) (a .h) (bitOfWord (a .free) j) (bitOfWord (a .first) j) (a .rings .now) (a .r) (a .x + j) in (
       omega arith,
       omega arith,
       all-more G (a .from) (l .k) (l .inv .2) (c .before .before .good2 .ensures (not-false _ (c .before .if2 .left))),
-      got-some (a .w) (a .rings .now) (a .r * a .w) (a .x) (a .from) (l .k) (l .got) (c .bit .result) (λ j h. one-alone (c .bit .result) (l .k) j (c .bit .ensures 0) h) (omega (arith, c .before .before .before .if1 .left)) (l .inv .0) (omega arith) (l .inv .3),
+      got-some (a .w) (a .rings .now) (a .r * a .w) (a .x) (a .from) (l .k) (l .got) (c .bit .result) (λ j h. one-alone (c .bit .result) (l .k) j (c .bit .ensures 0) h)
+          (omega (arith, b3 .if1 .left)) (l .inv .0) (omega arith) (l .inv .3),
       rw z (least-more (λ j. getD (a .rings .now) (a .r * a .w + (a .x + j)) 0) (a .from) (l .k) (l .most) (l .inv .4)),
     )
 
@@ -86,5 +96,5 @@ returns-2 c =
 pub pixels-spec : {M : Type 1} → statement M
 pixels-spec =
     tie.close
-    (tie.spec Inv-loop μ-loop mul-at add-at loop-holds add-v mul-v shared-slice-read-v (λ c. search needs) (λ c. search needs) loop-again
-    good-requires returns (λ c κs. search needs) (λ c. search needs) (λ c. search needs) loop-again-2 returns-2)
+    (tie.spec Inv-loop μ-loop mul-at add-at loop-holds add-v mul-v shared-slice-read-v (λ c. search needs) (λ c. search needs) loop-again good-requires
+    returns (λ c κs. search needs) (λ c. search needs) (λ c. search needs) loop-again-2 returns-2)

@@ -16,22 +16,31 @@ abbrev μ-loop : tie.MeasureT-loop
 μ-loop rings ones w h r x n free first at got₀ most₀ b₀ got most b = 8 - b
 
 mul-at : tie.Need-mul-at Inv-loop μ-loop
-mul-at c = let p = c .before .before .pre in omega (arith, step-fits (c .before .before .args .w) (c .before .before .args .h) (c .before .before .args .r) 0 (p .0 .0) (p .1 .0) (p .0 .0 .w-low), p .0 .0 .w-high)
+mul-at c =
+    let b2 = c .before .before in
+    let p = b2 .pre in omega (arith, step-fits (b2 .args .w) (b2 .args .h) (b2 .args .r) 0 (p .0 .0) (p .1 .0) (p .0 .0 .w-low), p .0 .0 .w-high)
 
 add-at : tie.Need-add-at Inv-loop μ-loop
-add-at c = let p = c .before .before .pre in omega (arith, step-fits (c .before .before .args .w) (c .before .before .args .h) (c .before .before .args .r) 0 (p .0 .0) (p .1 .0) (p .0 .0 .w-low), p .0 .0 .w-high)
+add-at c =
+    let b2 = c .before .before in
+    let p = b2 .pre in omega (arith, step-fits (b2 .args .w) (b2 .args .h) (b2 .args .r) 0 (p .0 .0) (p .1 .0) (p .0 .0 .w-low), p .0 .0 .w-high)
 
 next-requires : tie.Need-next-requires Inv-loop μ-loop
-next-requires c κs =
-    let p = c .before .before .pre in
+next-requires c κs = let p = c .before .before .pre in
     let a = c .before .before .args in
     let i = in-plane (a .w) (a .h) (a .r) (a .x) (p .1 .0) (p .1 .1 .0) in
-    let e = p .1 .1 .1 .0 in
-    ((λ l. let j = in-plane (a .w) (a .h) (a .r) (a .x + 63) (p .1 .0) (omega (arith, e)) in omega (arith, j, p .0 .1)), omega (arith, i, area-fit (a .w) (a .h) (p .0 .0)), p .1 .1 .1 .1, omega arith)
+    let e = p .1 .1 .1 .0 in (
+      (λ l. let j = in-plane (a .w) (a .h) (a .r) (a .x + 63) (p .1 .0) (omega (arith, e)) in omega (arith, j, p .0 .1)),
+      omega (arith, i, area-fit (a .w) (a .h) (p .0 .0)),
+      p .1 .1 .1 .1,
+      omega
+          arith,
+    )
 
 loop-holds : tie.Need-loop-holds Inv-loop μ-loop
 loop-holds c =
-    let a = c .before .before .before .args in
+    let b3 = c .before .before .before in
+    let a = b3 .args in
     let u = c .next .ensures in (
       u .1,
       upto-next (a .w) (a .h) (a .rings .now) (a .r) (a .x) (a .free) (a .first) (a .first) 1 0 (c .next .result) (u .0) (u .1) (u .2)
@@ -40,9 +49,10 @@ loop-holds c =
 
 pixels-requires : tie.Need-pixels-requires Inv-loop μ-loop
 pixels-requires c κs =
-    let e = c .before .before .before .before .before .before .pre .1 .1 .1 .0 in
-    let s = c .smaller .ensures in
-    (c .before .before .before .before .before .before .pre .0, (c .before .before .before .before .before .before .pre .1 .0, (omega (arith, s), (omega (arith, s, e), omega (arith, s, e)))))
+    let b6 = c .before .before .before .before .before .before in
+    let e = b6 .pre .1 .1 .1 .0 in
+    let s = c .lesser .ensures in
+    (b6 .pre .0, (b6 .pre .1 .0, (omega (arith, s), (omega (arith, s, e), omega (arith, s, e)))))
 
 returns : tie.Need-returns Inv-loop μ-loop
 returns c = let n = not-out _ (c .if1 .taken) in record { fine = λ e. clash e n; gets = λ e. clash e n; most = λ e. clash e n }
@@ -52,25 +62,32 @@ next-requires-2 c κs =
     let p = c .before .before .before .before .before .before .before .before .before .before .before .pre in
     let a = c .before .before .before .before .before .before .before .before .before .before .before .args in
     let i = in-plane (a .w) (a .h) (a .r) (a .x) (p .1 .0) (p .1 .1 .0) in
-    let e = p .1 .1 .1 .0 in
-    ((λ l. let j = in-plane (a .w) (a .h) (a .r) (a .x + 63) (p .1 .0) (omega (arith, e)) in omega (arith, j, p .0 .1)), omega (arith, i, area-fit (a .w) (a .h) (p .0 .0)), p .1 .1 .1 .1, omega (arith, e, c .before .before .before .before .before .before .before .loop .inv .0))
+    let e = p .1 .1 .1 .0 in (
+      (λ l. let j = in-plane (a .w) (a .h) (a .r) (a .x + 63) (p .1 .0) (omega (arith, e)) in omega (arith, j, p .0 .1)),
+      omega (arith, i, area-fit (a .w) (a .h) (p .0 .0)),
+      p .1 .1 .1 .1,
+      omega
+          (arith, e, c .before .before .before .before .before .before .before .loop .inv .0),
+    )
 
 loop-again : tie.Need-loop-again Inv-loop μ-loop
 loop-again c =
-    let a = c .before .before .before .before .before .before .before .before .before .before .before .before .args in
-    let l = c .before .before .before .before .before .before .before .before .loop in
-    let t = c .before .before .before .before .before .pixels in
-    let s = c .before .before .before .before .before .before .smaller .ensures in
-    let n = c .before .before .before .before .before .before .before .before .before .before .before .before .pre .1 .1 .1 .0 in
-    let g = not-false (t .result .good) (c .before .before .before .if1 .left) in
-    let le : c .before .before .before .before .before .before .smaller .result ≤ 8 * l .b + 8 = omega (arith, s) in
-    let ge : (k : ℕ) → k < 8 * l .b + 8 → a .x + k < a .w → k < c .before .before .before .before .before .before .smaller .result = λ k h lw. omega (arith, s, n) in
+    let b3 = c .before .before .before in let b5 = b3 .before .before in let b6 = b5 .before in let b8 = b6 .before .before in let b12 = b8 .before .before .before .before in
+    let a = b12 .args in
+    let l = b8 .loop in
+    let t = b5 .pixels in
+    let s = b6 .lesser .ensures in
+    let n = b12 .pre .1 .1 .1 .0 in
+    let g = not-false (t .result .good) (b3 .if1 .left) in
+    let le : b6 .lesser .result ≤ 8 * l .b + 8 = omega (arith, s) in
+    let ge : (k : ℕ) → k < 8 * l .b + 8 → a .x + k < a .w → k < b6 .lesser .result = λ k h lw. omega (arith, s, n) in
     let lb : l .b < 8 = omega (arith, n) in
     let u = c .next2 .ensures in (
       u .1,
       upto-next (a .w) (a .h) (a .rings .now) (a .r) (a .x) (a .free) (a .first) _ _ (l .b + 1) (c .next2 .result) (u .0) (u .1) (u .2) (record {
         good = told-before (a .w) (a .h) (a .rings .now) (a .r) (a .x) (a .free) (a .first) (l .b) _ (t .result) (t .ensures) g le ge lb (l .inv .1 .good);
-        gets = told-got (a .w) (a .h) (a .rings .now) (a .r) (a .x) (a .free) (a .first) (l .b) _ (t .result) (t .ensures) g le ge lb (l .got) _ (c .before .before .patched .ensures) (l .inv .1 .gets);
+        gets = told-got (a .w) (a .h) (a .rings .now) (a .r) (a .x) (a .free) (a .first) (l .b) _ (t .result) (t .ensures) g le ge lb (l .got) _ (c .before .before .patched .ensures)
+            (l .inv .1 .gets);
         least = told-least (a .w) (a .h) (a .rings .now) (a .r) (a .x) (a .free) (a .first) (l .b) _ (t .result) (t .ensures) g le ge lb (l .most) (l .inv .1 .least);
       }),
     )

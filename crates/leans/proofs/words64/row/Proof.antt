@@ -28,30 +28,30 @@ loop-holds c = (
 )
 
 word-requires : tie.Need-word-requires Inv-loop μ-loop
-word-requires c κs = (c .before .before .before .before .before .before .before .before .before .before .pre .0 .0, (c .before .before .before .before .before .before .before .before .before .before .pre .0 .1 .0, (omega arith, c .before .before .before .before .before .before .before .before .before .before .pre .0 .1 .1)))
-
-same-length : tie.Need-same-length Inv-loop μ-loop
-same-length c = c .before .before .before .before .before .before .loop .inv .1
-
-returns : tie.Need-returns Inv-loop μ-loop
-returns c = ((λ e. clash e refl), ((λ e. clash e refl), λ e. clash e refl))
+word-requires c κs =
+    let b10 = c .before .before .before .before .before .before .before .before .before .before in
+    (b10 .pre .0 .0, (b10 .pre .0 .1 .0, (omega arith, b10 .pre .0 .1 .1)))
 
 slice-write-got : tie.Need-slice-write-got Inv-loop μ-loop
-slice-write-got c = omega (arith, c .before .before .before .before .before .before .before .before .before .loop .inv .1, c .before .before .before .before .before .before .before .before .before .before .before .before .before .before .before .before .pre .1 .1 .1 .1)
+slice-write-got c = omega (
+  arith,
+  c .before .before .before .before .before .before .before .before .before .loop .inv .1,
+  c .before .before .before .before .before .before .before .before .before .before .before .before .before .before .before .before .pre .1 .1 .1 .1,
+)
 
 loop-again : tie.Need-loop-again Inv-loop μ-loop
 loop-again c =
-    let a = c .before .before .before .before .before .before .before .before .before .before .before .before .before .before .before .before .args in
-    let l = c .before .before .before .before .before .before .before .before .before .loop in
-    let g = not-false _ (c .before .before .before .if1 .left) in (
+    let b3 = c .before .before .before in let b5 = b3 .before .before in let b9 = b5 .before .before .before .before in
+    let b16 = b9 .before .before .before .before .before .before .before in
+    let a = b16 .args in
+    let l = b9 .loop in
+    let g = not-false _ (b3 .if1 .left) in (
       omega arith,
       simp length-set (l .inv .1),
-      lined-more (a .w) (a .h) (a .rings .now) (a .r) (l .i) (a .free .now) (a .first .now) (l .got) (l .most) (c .before .before .before .before .before .word .result) (c .before .before .before .before .before .word .ensures) g (omega (arith, l .inv .1, c .before .before .before .before .before .before .before .before .before .before .before .before .before .before .before .before .pre .1 .1 .1 .1)) (l .inv .2),
-      row-held (a .w) (a .h) (a .rings .now) (a .r) (l .i) (a .hang .now) _ _ (l .bare) (c .before .before .before .before .before .word .result) (c .before .before .before .before .before .word .ensures) g (omega arith) (l .inv .3),
+      lined-more (a .w) (a .h) (a .rings .now) (a .r) (l .i) (a .free .now) (a .first .now) (l .got) (l .most) (b5 .word .result) (b5 .word .ensures) g
+          (omega (arith, l .inv .1, b16 .pre .1 .1 .1 .1)) (l .inv .2),
+      row-held (a .w) (a .h) (a .rings .now) (a .r) (l .i) (a .hang .now) _ _ (l .bare) (b5 .word .result) (b5 .word .ensures) g (omega arith) (l .inv .3),
     )
-
-same-length-2 : tie.Need-same-length-2 Inv-loop μ-loop
-same-length-2 c = c .before .loop .inv .1
 
 returns-2 : tie.Need-returns-2 Inv-loop μ-loop
 returns-2 c =
@@ -63,6 +63,7 @@ returns-2 c =
 pub row-spec : {M : Type 1} → statement M
 row-spec =
     tie.close
-    (tie.spec Inv-loop μ-loop loop-holds (λ c. search needs) (λ c. search needs) (λ c. search needs) (λ c. search needs) (λ c. search needs)
-    word-requires same-length returns (λ c. search needs) (λ c. search needs) (λ c. search needs) slice-write-got (λ c. search needs)
-    (λ c. search needs) loop-again same-length-2 returns-2)
+    (tie.spec Inv-loop μ-loop loop-holds (λ c. search needs) (λ c. search needs) (λ c. search needs) (λ c. search needs) (λ c. search needs) word-requires
+    (λ c. c .before .before .before .before .before .before .loop .inv .1) (λ c. ((λ e. clash e refl), ((λ e. clash e refl), λ e. clash e refl)))
+    (λ c. search needs) (λ c. search needs) (λ c. search needs) slice-write-got (λ c. search needs) (λ c. search needs) loop-again
+    (λ c. c .before .loop .inv .1) returns-2)

@@ -2,8 +2,8 @@ use Rattle.leans.specs.Joined.{step-fits, quiet-told}
 use Rattle.leans.specs.BitLaws.{bit-zero}
 use Rattle.places.specs.Planes.{in-plane}
 use lib.ListN.{getD}
-use mathlib.Core.Path.{_≡_, ap, sym, _∙_}
-use Prim.Native.Nat.{ℕ, _+_, _*_, _-_, _<_}
+use mathlib.Core.Path.{ap, sym, _∙_}
+use Prim.Native.Nat.{ℕ, _-_}
 use native.Mathlib.Omega.{arith}
 use borrow.Author.Needs.{needs}
 use Rattle.leans.proofs.words64.word.Statement.{statement}
@@ -17,24 +17,31 @@ returns c = record {
 }
 
 mul-none : tie.Need-mul-none
-mul-none c = let p = c .before .before .before .before .before .pre in omega (arith, step-fits (c .before .before .before .before .before .args .w) (c .before .before .before .before .before .args .h) (c .before .before .before .before .before .args .r) 0 (p .0 .0) (p .1 .0) (p .0 .0 .w-low), p .0 .0 .w-high)
+mul-none c =
+    let b5 = c .before .before .before .before .before in
+    let p = b5 .pre in omega (arith, step-fits (b5 .args .w) (b5 .args .h) (b5 .args .r) 0 (p .0 .0) (p .1 .0) (p .0 .0 .w-low), p .0 .0 .w-high)
 
 add-none : tie.Need-add-none
-add-none c = let p = c .before .before .before .before .before .pre in omega (arith, step-fits (c .before .before .before .before .before .args .w) (c .before .before .before .before .before .args .h) (c .before .before .before .before .before .args .r) 0 (p .0 .0) (p .1 .0) (p .0 .0 .w-low), p .0 .0 .w-high)
+add-none c =
+    let b5 = c .before .before .before .before .before in
+    let p = b5 .pre in omega (arith, step-fits (b5 .args .w) (b5 .args .h) (b5 .args .r) 0 (p .0 .0) (p .1 .0) (p .0 .0 .w-low), p .0 .0 .w-high)
 
 none-requires : tie.Need-none-requires
 none-requires c κs =
-    let a = c .before .before .before .before .before .args in
-    omega (arith, in-plane (a .w) (a .h) (a .r) (a .w - 1) (c .before .before .before .before .before .pre .1 .0) (omega (arith, c .before .before .before .before .before .pre .0 .0 .w-low)), c .before .smaller .ensures, c .before .before .before .before .before .pre .0 .1, c .before .before .before .before .before .pre .0 .0 .w-low)
+    let b5 = c .before .before .before .before .before in let pre = b5 .pre in
+    let a = b5 .args in
+    omega (arith, in-plane (a .w) (a .h) (a .r) (a .w - 1) (pre .1 .0) (omega (arith, pre .0 .0 .w-low)), c .before .lesser .ensures, pre .0 .1, pre .0 .0 .w-low)
 
 returns-2 : tie.Need-returns-2
 returns-2 c =
     let a = c .before .before .before .before .before .before .args in
     quiet-told (a .w) (a .h) (a .rings .now) (a .r) (a .x) (a .free) (a .first) _ (λ e k b lw.
-    sym (ap (λ (p : ℕ). getD (a .rings .now) p 0) (omega arith)) ∙ c .none .ensures e k (omega (arith, c .before .before .smaller .ensures)))
+    sym (ap (λ (p : ℕ). getD (a .rings .now) p 0) (omega arith)) ∙ c .none .ensures e k (omega (arith, c .before .before .lesser .ensures)))
 
 eights-requires : tie.Need-eights-requires
-eights-requires c κs = (c .before .before .before .before .before .pre .0, (c .before .before .before .before .before .pre .1 .0, (omega arith, (c .before .smaller .ensures, c .before .before .before .before .before .pre .1 .1 .1))))
+eights-requires c κs =
+    let b5 = c .before .before .before .before .before in
+    (b5 .pre .0, (b5 .pre .1 .0, (omega arith, (c .before .lesser .ensures, b5 .pre .1 .1 .1))))
 
 pub word-spec : {M : Type 1} → statement M
 word-spec =

@@ -15,29 +15,34 @@ Inv-loop s w h i all n₀ p₀ n p = (p ≤ all) × (n ≡ count p (images.pixel
 abbrev μ-loop : tie.MeasureT-loop
 μ-loop s w h i all n₀ p₀ n p = all - p
 
-mul-all : tie.Need-mul-all Inv-loop μ-loop
-mul-all c = omega (arith, area (c .before .pre))
-
 loop-holds : tie.Need-loop-holds Inv-loop μ-loop
 unfolding count
 loop-holds c = (omega arith, refl)
 
-pixel-requires : tie.Need-pixel-requires Inv-loop μ-loop
-pixel-requires c κs = (c .before .before .before .pre, c .loop-test .taken)
-
 add-n : tie.Need-add-n Inv-loop μ-loop
-add-n c = omega (arith, c .one .ensures .1, count-le (c .before .before .before .loop .p) (images.pixel (c .before .before .before .before .before .args .w) (c .before .before .before .before .before .args .h) (c .before .before .before .before .before .args .s .now) (c .before .before .before .before .before .args .i)), c .before .before .before .loop .inv .1, area (c .before .before .before .before .before .pre), c .before .before .loop-test .taken)
+add-n c =
+    let b3 = c .before .before .before in let b5 = b3 .before .before in let args = b5 .args in
+    omega (arith, c .one .ensures .1, count-le (b3 .loop .p) (images.pixel (args .w) (args .h) (args .s .now) (args .i)), b3 .loop .inv .1, area (b5 .pre), c .before .before .loop-test .taken)
 
 add-p : tie.Need-add-p Inv-loop μ-loop
 add-p c = omega (arith, area (c .before .before .before .before .before .pre), c .before .before .loop-test .taken)
 
 loop-again : tie.Need-loop-again Inv-loop μ-loop
-loop-again c = (omega arith, count-next (images.pixel (c .before .before .before .before .before .args .w) (c .before .before .before .before .before .args .h) (c .before .before .before .before .before .args .s .now) (c .before .before .before .before .before .args .i)) (c .before .before .before .loop .p) (c .before .before .before .loop .n) (c .one .result) (c .before .before .before .loop .inv .1) (c .one .ensures .0 ∙ ap bit (c .before .pixel .ensures)))
+loop-again c =
+    let b3 = c .before .before .before in let b5 = b3 .before .before in let args = b5 .args in (
+      omega arith,
+      count-next (images.pixel (args .w) (args .h) (args .s .now) (args .i)) (b3 .loop .p) (b3 .loop .n) (c .one .result) (b3 .loop .inv .1)
+          (c .one .ensures .0 ∙ ap bit (c .before .pixel .ensures)),
+    )
 
 returns : tie.Need-returns Inv-loop μ-loop
-returns c = count-end (images.pixel (c .before .before .before .args .w) (c .before .before .before .args .h) (c .before .before .before .args .s .now) (c .before .before .before .args .i)) (c .before .loop .p) (c .before .before .before .args .h * c .before .before .before .args .w) (c .before .loop .n) (c .before .loop .inv .0) (c .loop-test .left) (c .before .loop .inv .1) (area (c .before .before .before .pre))
+returns c =
+    let b3 = c .before .before .before in let args = b3 .args in
+    count-end (images.pixel (args .w) (args .h) (args .s .now) (args .i)) (c .before .loop .p) (args .h * args .w) (c .before .loop .n) (c .before .loop .inv .0) (c .loop-test .left)
+    (c .before .loop .inv .1) (area (b3 .pre))
 
 pub filled-spec : {M : Type 1} → statement M
 filled-spec =
     tie.close
-    (tie.spec Inv-loop μ-loop mul-all loop-holds pixel-requires (λ c κs. search needs) add-n add-p (λ c. search needs) loop-again returns)
+    (tie.spec Inv-loop μ-loop (λ c. omega (arith, area (c .before .pre))) loop-holds (λ c κs. (c .before .before .before .pre, c .loop-test .taken))
+    (λ c κs. search needs) add-n add-p (λ c. search needs) loop-again returns)

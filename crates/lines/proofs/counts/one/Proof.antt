@@ -1,6 +1,5 @@
 use Rattle.rules.specs.Tools as tools
 use native.Mathlib.Omega.{arith}
-use borrow.Author.Needs.{needs}
 use Rattle.lines.proofs.counts.one.Statement.{statement}
 use Rattle.lines.proofs.counts.one.Tie as tie
 
@@ -13,4 +12,6 @@ unfolding tools.bit
 returns-2 c = (simp (c .if1 .left), omega arith)
 
 pub one-spec : {M : Type 1} → statement M
-one-spec = tie.close (tie.spec returns returns-2)
+one-spec =
+    tie.close
+    (tie.spec returns returns-2)

@@ -1,5 +1,4 @@
-use mathlib.Core.Path.{_≡_, sym, _∙_}
-use lib.ListN.{length}
+use mathlib.Core.Path.{sym, _∙_}
 use lib.Seq.{length-take-le}
 use Rattle.laws.specs.Limits.{ranged}
 use Rattle.lines.specs.Printed.{refused-short, refused-printed, plan-fits, text-no-room, text-lines}
@@ -9,29 +8,46 @@ use Rattle.lines.proofs.output.job_text.Statement.{statement}
 use Rattle.lines.proofs.output.job_text.Tie as tie
 
 ring-count-requires : tie.Need-ring-count-requires
-ring-count-requires c κs = let r = ranged (c .before .before .before .before .args .s) (c .before .before .before .before .pre .0 .settings) in (r .n-low, (r .n-high, (r .h-high, r .w-high)))
+ring-count-requires c κs =
+    let b4 = c .before .before .before .before in
+    let r = ranged (b4 .args .s) (b4 .pre .0 .settings) in (r .n-low, (r .n-high, (r .h-high, r .w-high)))
 
 refused-line-requires : tie.Need-refused-line-requires
 refused-line-requires c κs = omega (arith, refused-short 17 (omega arith), c .before .before .before .before .before .before .before .pre .1 .text)
 
 returns : tie.Need-returns
-returns c = text-no-room (c .before .before .before .before .before .before .before .before .before .before .args .s) (c .before .before .before .before .before .before .before .before .before .before .args .part .now) (c .before .before .before .before .before .ring-count .result) (c .before .before .refused-line .result) (c .before .before .refused-line .last .0) (c .before .before .before .before .before .before .before .before .before .before .args .out .now) (c .before .before .before .before .before .ring-count .ensures) (c .before .before .before .before .if1 .taken) (refused-printed 17 (c .before .before .refused-line .result) (c .before .before .refused-line .last .0) (c .before .before .before .before .before .before .before .before .before .before .args .out .now) (omega arith) (c .before .before .refused-line .ensures))
+returns c =
+    let b2 = c .before .before in let b4 = b2 .before .before in let b5 = b4 .before in let b10 = b5 .before .before .before .before .before in let args = b10 .args in
+    text-no-room (args .s) (args .part .now) (b5 .ring-count .result) (b2 .refused-line .result) (b2 .refused-line .last .0) (args .out .now) (b5 .ring-count .ensures) (b4 .if1 .taken)
+    (refused-printed 17 (b2 .refused-line .result) (b2 .refused-line .last .0) (args .out .now) (omega arith) (b2 .refused-line .ensures))
 
 slice-aggregate-planned-lines : tie.Need-slice-aggregate-planned-lines
-slice-aggregate-planned-lines c = sym (length-take-le _ (c .before .before .before .before .before .before .before .args .support .now) (omega (arith, c .before .before .before .before .before .before .before .pre .0 .fits, c .before .before .before .before .before .before .before .pre .1 .support)))
+slice-aggregate-planned-lines c =
+    let b7 = c .before .before .before .before .before .before .before in
+    sym (length-take-le _ (b7 .args .support .now) (omega (arith, b7 .pre .0 .fits, b7 .pre .1 .support)))
 
 slice-aggregate-planned-lines-2 : tie.Need-slice-aggregate-planned-lines-2
-slice-aggregate-planned-lines-2 c = sym (length-take-le _ (c .before .before .before .before .before .before .before .before .args .rings .now) (omega (arith, c .before .before .if1 .left, c .before .before .before .before .before .before .before .before .pre .1 .rings)))
+slice-aggregate-planned-lines-2 c =
+    let b8 = c .before .before .before .before .before .before .before .before in
+    sym (length-take-le _ (b8 .args .rings .now) (omega (arith, c .before .before .if1 .left, b8 .pre .1 .rings)))
 
 planned-lines-requires : tie.Need-planned-lines-requires
-planned-lines-requires c κs = (plan-fits (c .before .before .before .before .before .before .before .before .before .args .s) (c .before .before .before .before .before .before .before .before .before .args .part .now) _ _ (c .before .before .before .before .before .before .before .before .before .pre .0) (length-take-le _ (c .before .before .before .before .before .before .before .before .before .args .support .now) (omega (arith, c .before .before .before .before .before .before .before .before .before .pre .0 .fits, c .before .before .before .before .before .before .before .before .before .pre .1 .support))) (length-take-le _ (c .before .before .before .before .before .before .before .before .before .args .rings .now) (omega (arith, c .before .before .before .if1 .left, c .before .before .before .before .before .before .before .before .before .pre .1 .rings)) ∙ c .before .before .before .before .ring-count .ensures), (c .before .before .before .before .before .before .before .before .before .pre .0, c .before .before .before .before .before .before .before .before .before .pre .1 .text))
+planned-lines-requires c κs =
+    let b3 = c .before .before .before in let b4 = b3 .before in let b9 = b4 .before .before .before .before .before in let args = b9 .args in let pre = b9 .pre in (
+      plan-fits (args .s) (args .part .now) _ _ (pre .0) (length-take-le _ (args .support .now) (omega (arith, pre .0 .fits, pre .1 .support)))
+          (length-take-le _ (args .rings .now) (omega (arith, b3 .if1 .left, pre .1 .rings)) ∙ b4 .ring-count .ensures),
+      (pre .0, pre .1 .text),
+    )
 
 returns-2 : tie.Need-returns-2
-returns-2 c = text-lines (c .before .before .before .before .before .before .before .before .before .before .before .before .before .before .before .before .args .s) (c .before .before .before .before .before .before .before .before .before .before .before .before .before .before .before .before .args .part .now) (c .before .before .before .before .before .before .before .before .before .before .before .ring-count .result) (c .before .before .before .before .before .before .planned-lines .result) (c .before .before .before .before .before .before .planned-lines .last .1 .1 .1 .1 .0) (c .before .before .before .before .before .before .before .before .before .before .before .before .before .before .before .before .args .out .now) (c .before .before .before .before .before .before .before .before .before .before .before .ring-count .ensures) (c .before .before .before .before .before .before .before .before .before .before .if1 .left) (c .before .before .before .before .before .before .planned-lines .ensures)
+returns-2 c =
+    let b6 = c .before .before .before .before .before .before in let b10 = b6 .before .before .before .before in let b11 = b10 .before in
+    let b16 = b11 .before .before .before .before .before in
+    text-lines (b16 .args .s) (b16 .args .part .now) (b11 .ring-count .result) (b6 .planned-lines .result) (b6 .planned-lines .last .1 .1 .1 .1 .0) (b16 .args .out .now) (b11 .ring-count .ensures)
+    (b10 .if1 .left) (b6 .planned-lines .ensures)
 
 pub job-text-spec : {M : Type 1} → statement M
 job-text-spec =
     tie.close
-    (tie.spec ring-count-requires refused-line-requires (λ c. search needs) returns (λ c. search needs) slice-aggregate-planned-lines
-    (λ c. search needs) slice-aggregate-planned-lines-2 planned-lines-requires (λ c. search needs) (λ c. search needs) (λ c. search needs)
-    returns-2)
+    (tie.spec ring-count-requires refused-line-requires (λ c. search needs) returns (λ c. search needs) slice-aggregate-planned-lines (λ c. search needs)
+    slice-aggregate-planned-lines-2 planned-lines-requires (λ c. search needs) (λ c. search needs) (λ c. search needs) returns-2)

@@ -4,32 +4,36 @@ use borrow.Author.Needs.{needs}
 use Rattle.lines.proofs.output.report.Statement.{statement}
 use Rattle.lines.proofs.output.report.Tie as tie
 
-refused-line-requires : tie.Need-refused-line-requires
-refused-line-requires c κs = omega (arith, refused-short 17 (omega arith))
-
 returns : tie.Need-returns
 returns c = printed-report _ _ _ _ _ (rw (c .before .before .if1 .taken) (refused-printed 17 _ _ _ (omega arith) (c .refused-line .ensures)))
 
-refused-line-requires-2 : tie.Need-refused-line-requires-2
-refused-line-requires-2 c κs = omega (arith, refused-short 17 (omega arith))
-
 returns-2 : tie.Need-returns-2
-returns-2 c = printed-report _ _ _ _ _ (rw (c .before .before .before .if1 .left) (longer-report _ _ _ _ (c .before .before .if2 .taken) (refused-printed 17 _ _ _ (omega arith) (c .refused-line2 .ensures))))
+returns-2 c =
+    let b3 = c .before .before .before in
+    printed-report _ _ _ _ _ (rw (b3 .if1 .left) (longer-report _ _ _ _ (c .before .before .if2 .taken) (refused-printed 17 _ _ _ (omega arith) (c .refused-line2 .ensures))))
 
 refused-line-requires-3 : tie.Need-refused-line-requires-3
 refused-line-requires-3 c κs = omega (arith, refused-short (c .wide .result) (c .wide .ensures .1))
 
 read-text-requires : tie.Need-read-text-requires
-read-text-requires c κs = (job-planable _ (c .before .before .before .before .before .before .before .if2 .left) _ (c .before .before .before .before .before .before .read .ensures) _ _ (c .before .before .before .before .l .given .1) (c .before .part .ensures), search needs)
+read-text-requires c κs =
+    let b4 = c .before .before .before .before in let b6 = b4 .before .before in let b7 = b6 .before in
+    (job-planable _ (b7 .if2 .left) _ (b6 .read .ensures) _ _ (b4 .l .given .1) (c .before .part .ensures), search needs)
 
 returns-3 : tie.Need-returns-3
-returns-3 c = printed-report _ _ _ _ _ (rw (c .before .before .before .before .before .before .before .before .if1 .left) (refused-report _ (c .before .before .before .before .before .before .before .if2 .left) _ (c .before .before .before .before .before .before .read .ensures) _ _ _ _ _ (c .before .before .before .before .k .given .1) (c .before .wide .ensures .0) (refused-printed _ _ _ _ (c .before .wide .ensures .1) (c .refused-line3 .ensures))))
+returns-3 c =
+    let b4 = c .before .before .before .before in let b6 = b4 .before .before in let b7 = b6 .before in let b8 = b7 .before in
+    printed-report _ _ _ _ _ (rw (b8 .if1 .left) (refused-report _ (b7 .if2 .left) _ (b6 .read .ensures) _ _ _ _ _ (b4 .k .given .1) (c .before .wide .ensures .0)
+    (refused-printed _ _ _ _ (c .before .wide .ensures .1) (c .refused-line3 .ensures))))
 
 returns-4 : tie.Need-returns-4
-returns-4 c = printed-report _ _ _ _ _ (rw (c .before .before .before .before .before .before .before .before .before .if1 .left) (job-printed _ (c .before .before .before .before .before .before .before .before .if2 .left) _ (c .before .before .before .before .before .before .before .read .ensures) _ _ _ _ _ (c .before .before .before .before .before .l .given .1) (c .before .before .part .ensures) (c .read-text .ensures)))
+returns-4 c =
+    let b5 = c .before .before .before .before .before in let b7 = b5 .before .before in let b8 = b7 .before in let b9 = b8 .before in
+    printed-report _ _ _ _ _ (rw (b9 .if1 .left) (job-printed _ (b8 .if2 .left) _ (b7 .read .ensures) _ _ _ _ _ (b5 .l .given .1) (c .before .before .part .ensures) (c .read-text .ensures)))
 
 pub report-spec : {M : Type 1} → statement M
 report-spec =
     tie.close
-    (tie.spec refused-line-requires returns refused-line-requires-2 returns-2 (λ c κs. search needs) (λ c. search needs)
-    (λ c κs. search needs) refused-line-requires-3 (λ c. search needs) (λ c κs. search needs) read-text-requires returns-3 returns-4)
+    (tie.spec (λ c κs. omega (arith, refused-short 17 (omega arith))) returns (λ c κs. omega (arith, refused-short 17 (omega arith))) returns-2
+    (λ c κs. search needs) (λ c. search needs) (λ c κs. search needs) refused-line-requires-3 (λ c. search needs) (λ c κs. search needs)
+    read-text-requires returns-3 returns-4)

@@ -17,4 +17,6 @@ unfolding ringsIn
 returns c = refl
 
 pub ring-count-spec : {M : Type 1} → statement M
-ring-count-spec = tie.close (tie.spec (λ c. search needs) mul-result mul-result-2 returns)
+ring-count-spec =
+    tie.close
+    (tie.spec (λ c. search needs) mul-result mul-result-2 returns)

@@ -18,14 +18,15 @@ abbrev μ-loop : tie.MeasureT-loop
 returns : tie.Need-returns Inv-loop μ-loop
 returns c = least-none _ _ _ (c .before .pre .0) (λ y l b. no-bit (c .before .args .m) y (c .if1 .taken))
 
-loop-holds : tie.Need-loop-holds Inv-loop μ-loop
-loop-holds c = (search needs, search needs, λ y l b. absurd (omega arith))
-
 returns-2 : tie.Need-returns-2 Inv-loop μ-loop
-returns-2 c = least-one _ _ _ (c .before .before .before .loop .k) (c .before .before .before .loop .inv .0) (search needs) (c .before .before .before .loop .inv .2) (sym (c .before .bit .ensures) ∙ c .if2 .taken)
+returns-2 c =
+    let b3 = c .before .before .before in
+    least-one _ _ _ (b3 .loop .k) (b3 .loop .inv .0) (search needs) (b3 .loop .inv .2) (sym (c .before .bit .ensures) ∙ c .if2 .taken)
 
 loop-again : tie.Need-loop-again Inv-loop μ-loop
-loop-again c = (search needs, search needs, fails-more _ _ (c .before .before .before .loop .k) (c .before .before .before .loop .inv .2) (sym (c .before .bit .ensures) ∙ c .if2 .left))
+loop-again c =
+    let b3 = c .before .before .before in
+    (search needs, search needs, fails-more _ _ (b3 .loop .k) (b3 .loop .inv .2) (sym (c .before .bit .ensures) ∙ c .if2 .left))
 
 returns-3 : tie.Need-returns-3 Inv-loop μ-loop
 returns-3 c = least-none _ _ _ (search needs) (λ y l b. c .before .loop .inv .2 y l (omega arith))
@@ -33,5 +34,5 @@ returns-3 c = least-none _ _ _ (search needs) (λ y l b. c .before .loop .inv .2
 pub bit-from-spec : {M : Type 1} → statement M
 bit-from-spec =
     tie.close
-    (tie.spec Inv-loop μ-loop returns loop-holds (λ c κs. search needs) returns-2 (λ c. search needs) (λ c. search needs) loop-again
-    returns-3)
+    (tie.spec Inv-loop μ-loop returns (λ c. (search needs, search needs, λ y l b. absurd (omega arith))) (λ c κs. search needs) returns-2
+    (λ c. search needs) (λ c. search needs) loop-again returns-3)

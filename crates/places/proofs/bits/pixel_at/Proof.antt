@@ -8,4 +8,6 @@ unfolding bitIn
 returns c = c .bit .ensures
 
 pub pixel-at-spec : {M : Type 1} → statement M
-pixel-at-spec = tie.close (tie.spec (λ c. search needs) (λ c. search needs) (λ c κs. search needs) returns)
+pixel-at-spec =
+    tie.close
+    (tie.spec (λ c. search needs) (λ c. search needs) (λ c κs. search needs) returns)

@@ -16,11 +16,13 @@ Inv-loop part sup n all₀ j₀ all j = (j ≤ n) × (all ≡ 0 → (i : ℕ) �
 abbrev μ-loop : tie.MeasureT-loop
 μ-loop part sup n all₀ j₀ all j = n - j
 
-loop-holds : tie.Need-loop-holds Inv-loop μ-loop
-loop-holds c = (omega arith, λ e i l. absurd (omega arith))
-
 loop-again : tie.Need-loop-again Inv-loop μ-loop
-loop-again c = (omega arith, gather-more (λ i. (k : ℕ) → k < 8 → (bitAt (getD (c .before .before .before .before .args .sup .now) i 0) k && bitAt (getD (c .before .before .before .before .args .part .now) i 0) k) ≡ false) (c .before .before .before .loop .j) (c .before .before .before .loop .all) _ (c .before .before .before .loop .inv .1) (apart-byte (getD (c .before .before .before .before .args .sup .now) (c .before .before .before .loop .j) 0) (getD (c .before .before .before .before .args .part .now) (c .before .before .before .loop .j) 0) _ refl))
+loop-again c =
+    let b3 = c .before .before .before in let b4 = b3 .before in let args = b4 .args in (
+      omega arith,
+      gather-more (λ i. (k : ℕ) → k < 8 → (bitAt (getD (args .sup .now) i 0) k && bitAt (getD (args .part .now) i 0) k) ≡ false) (b3 .loop .j) (b3 .loop .all) _ (b3 .loop .inv .1)
+          (apart-byte (getD (args .sup .now) (b3 .loop .j) 0) (getD (args .part .now) (b3 .loop .j) 0) _ refl),
+    )
 
 returns : tie.Need-returns Inv-loop μ-loop
 returns c = λ e i l. c .before .loop .inv .1 (eqb-true _ 0 e) i (omega arith)
@@ -28,4 +30,5 @@ returns c = λ e i l. c .before .loop .inv .1 (eqb-true _ 0 e) i (omega arith)
 pub apart-spec : {M : Type 1} → statement M
 apart-spec =
     tie.close
-    (tie.spec Inv-loop μ-loop loop-holds (λ c. search needs) (λ c. search needs) (λ c. search needs) (λ c. search needs) loop-again returns)
+    (tie.spec Inv-loop μ-loop (λ c. (omega arith, λ e i l. absurd (omega arith))) (λ c. search needs) (λ c. search needs) (λ c. search needs)
+    (λ c. search needs) loop-again returns)

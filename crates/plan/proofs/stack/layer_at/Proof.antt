@@ -1,6 +1,6 @@
 use mathlib.Core.Path.{_≡_, refl, sym, ap, subst, _∙_}
 use mathlib.Core.List.{List}
-use Prim.Native.Nat.{ℕ, suc, _-_, _+_, _*_, _<_}
+use Prim.Native.Nat.{ℕ, _-_, _+_, _*_}
 use borrow.Rule.Slice.PartMut.{same-len-mid, putMid}
 use lib.ListN.{length}
 use Rattle.pair.specs.PairLaws.{plane-size}
@@ -14,89 +14,92 @@ use borrow.Author.Needs.{needs}
 use Rattle.plan.proofs.stack.layer_at.Statement.{statement}
 use Rattle.plan.proofs.stack.layer_at.Tie as tie
 
--- src/stack.rt:52:16
 mul-size : tie.Need-mul-size
-mul-size c = omega (arith, plane-size (c .before .before .before .before .before .before .before .before .before .before .before .before .before .args .w) (c .before .before .before .before .before .before .before .before .before .before .before .before .before .args .h) (c .before .before .before .before .before .before .before .before .before .before .before .before .before .args .rb) (c .before .before .before .before .before .before .before .before .before .before .before .before .before .pre .0 .0))
+mul-size c =
+    let b13 = c .before .before .before .before .before .before .before .before .before .before .before .before .before in
+    omega (arith, plane-size (b13 .args .w) (b13 .args .h) (b13 .args .rb) (b13 .pre .0 .0))
 
--- src/stack.rt:53:16
 mul-area : tie.Need-mul-area
-mul-area c = omega (arith, area-max (c .before .before .before .before .before .before .before .before .before .before .before .before .before .args .w) (c .before .before .before .before .before .before .before .before .before .before .before .before .before .args .h) (c .before .before .before .before .before .before .before .before .before .before .before .before .before .pre .0 .0 .sizes .w-max) (c .before .before .before .before .before .before .before .before .before .before .before .before .before .pre .0 .0 .sizes .h-max))
+mul-area c =
+    let b13 = c .before .before .before .before .before .before .before .before .before .before .before .before .before in
+    omega (arith, area-max (b13 .args .w) (b13 .args .h) (b13 .pre .0 .0 .sizes .w-max) (b13 .pre .0 .0 .sizes .h-max))
 
--- src/stack.rt:54:13
 mul-a : tie.Need-mul-a
 mul-a c =
-    let A = c .before .before .before .before .before .before .before .before .before .before .before .before .before .args in
-    let P = c .before .before .before .before .before .before .before .before .before .before .before .before .before .pre in
+    let b13 = c .before .before .before .before .before .before .before .before .before .before .before .before .before in
+    let A = b13 .args in
+    let P = b13 .pre in
     omega (arith, layer-room (A .w) (A .h) (A .n) (A .h * A .rb) (A .i) (length (A .part .now)) (plane-size (A .w) (A .h) (A .rb) (P .0 .0) .0) (P .1 .0 .part-long) (omega (arith, P .0 .2)))
 
--- src/stack.rt:55:13
 add-m : tie.Need-add-m
 add-m c =
-    let A = c .before .before .before .before .before .before .before .before .before .before .before .before .before .args in
-    let P = c .before .before .before .before .before .before .before .before .before .before .before .before .before .pre in
+    let b13 = c .before .before .before .before .before .before .before .before .before .before .before .before .before in
+    let A = b13 .args in
+    let P = b13 .pre in
     omega (arith, layer-room (A .w) (A .h) (A .n) (A .h * A .rb) (A .i) (length (A .part .now)) (plane-size (A .w) (A .h) (A .rb) (P .0 .0) .0) (P .1 .0 .part-long) (omega (arith, P .0 .2)))
 
--- src/stack.rt:56:13
 mul-x : tie.Need-mul-x
 mul-x c =
-    let A = c .before .before .before .before .before .before .before .before .before .before .before .before .before .args in
-    let P = c .before .before .before .before .before .before .before .before .before .before .before .before .before .pre in
-    omega (arith, ring-room (A .w) (A .h) (A .n) (A .h * A .w) (A .i) (length (A .rings .now)) refl (P .1 .0 .rings-long) (P .0 .2), c .before .before .before .before .before .before .before .before .before .before .before .before .before .good .1 .1 .0)
+    let b13 = c .before .before .before .before .before .before .before .before .before .before .before .before .before in
+    let A = b13 .args in
+    let P = b13 .pre in
+    omega (arith, ring-room (A .w) (A .h) (A .n) (A .h * A .w) (A .i) (length (A .rings .now)) refl (P .1 .0 .rings-long) (P .0 .2), b13 .good .1 .1 .0)
 
--- src/stack.rt:58:9
 part-layer-end : tie.Need-part-layer-end
 part-layer-end c =
-    let A = c .before .before .before .before .before .before .before .before .before .before .before .before .before .args in
-    let P = c .before .before .before .before .before .before .before .before .before .before .before .before .before .pre in
+    let b13 = c .before .before .before .before .before .before .before .before .before .before .before .before .before in
+    let A = b13 .args in
+    let P = b13 .pre in
     layer-room (A .w) (A .h) (A .n) (A .h * A .rb) (A .i) (length (A .part .now)) (plane-size (A .w) (A .h) (A .rb) (P .0 .0) .0) (P .1 .0 .part-long) (omega (arith, P .0 .2))
 
--- src/stack.rt:59:18
 add-layer : tie.Need-add-layer
 add-layer c =
-    let A = c .before .before .before .before .before .before .before .before .before .before .before .before .before .before .args in
-    let P = c .before .before .before .before .before .before .before .before .before .before .before .before .before .before .pre in
+    let b14 = c .before .before .before .before .before .before .before .before .before .before .before .before .before .before in
+    let A = b14 .args in
+    let P = b14 .pre in
     omega (arith, up-room (A .w) (A .h) (A .n) (A .h * A .rb) (A .i) (length (A .part .now)) (plane-size (A .w) (A .h) (A .rb) (P .0 .0) .0) (P .1 .0 .part-long) (P .0 .2))
 
--- src/stack.rt:59:9
 part-layer-end-2 : tie.Need-part-layer-end-2
 part-layer-end-2 c =
-    let A = c .before .before .before .before .before .before .before .before .before .before .before .before .before .before .args in
-    let P = c .before .before .before .before .before .before .before .before .before .before .before .before .before .before .pre in
+    let b14 = c .before .before .before .before .before .before .before .before .before .before .before .before .before .before in
+    let A = b14 .args in
+    let P = b14 .pre in
     up-room (A .w) (A .h) (A .n) (A .h * A .rb) (A .i) (length (A .part .now)) (plane-size (A .w) (A .h) (A .rb) (P .0 .0) .0) (P .1 .0 .part-long) (P .0 .2)
 
--- src/stack.rt:61:9
 part-layer-end-3 : tie.Need-part-layer-end-3
 part-layer-end-3 c =
-    let A = c .before .before .before .before .before .before .before .before .before .before .before .before .before .before .before .before .args in
-    let P = c .before .before .before .before .before .before .before .before .before .before .before .before .before .before .before .before .pre in
+    let b16 = c .before .before .before .before .before .before .before .before .before .before .before .before .before .before .before .before in
+    let A = b16 .args in
+    let P = b16 .pre in
     layer-room (A .w) (A .h) (A .n) (A .h * A .rb) (A .i) (length (A .support .now)) (plane-size (A .w) (A .h) (A .rb) (P .0 .0) .0) (P .1 .0 .support-long) (omega (arith, P .0 .2))
 
--- src/stack.rt:62:23
 add-layer-2 : tie.Need-add-layer-2
 add-layer-2 c =
-    let A = c .before .before .before .before .before .before .before .before .before .before .before .before .before .before .before .before .before .args in
-    let P = c .before .before .before .before .before .before .before .before .before .before .before .before .before .before .before .before .before .pre in
-    omega (arith, ring-room (A .w) (A .h) (A .n) (A .h * A .w) (A .i) (length (A .rings .now)) refl (P .1 .0 .rings-long) (P .0 .2), c .before .before .before .before .before .before .before .before .before .before .before .before .before .before .before .before .before .good .1 .1 .0)
+    let b17 = c .before .before .before .before .before .before .before .before .before .before .before .before .before .before .before .before .before in
+    let A = b17 .args in
+    let P = b17 .pre in
+    omega (arith, ring-room (A .w) (A .h) (A .n) (A .h * A .w) (A .i) (length (A .rings .now)) refl (P .1 .0 .rings-long) (P .0 .2), b17 .good .1 .1 .0)
 
--- src/stack.rt:62:9
 mul-layer : tie.Need-mul-layer
 mul-layer c =
-    let A = c .before .before .before .before .before .before .before .before .before .before .before .before .before .before .before .before .before .args in
-    let P = c .before .before .before .before .before .before .before .before .before .before .before .before .before .before .before .before .before .pre in
-    omega (arith, ring-room (A .w) (A .h) (A .n) (A .h * A .w) (A .i) (length (A .rings .now)) refl (P .1 .0 .rings-long) (P .0 .2), c .before .before .before .before .before .before .before .before .before .before .before .before .before .before .before .before .before .good .1 .1 .0)
+    let b17 = c .before .before .before .before .before .before .before .before .before .before .before .before .before .before .before .before .before in
+    let A = b17 .args in
+    let P = b17 .pre in
+    omega (arith, ring-room (A .w) (A .h) (A .n) (A .h * A .w) (A .i) (length (A .rings .now)) refl (P .1 .0 .rings-long) (P .0 .2), b17 .good .1 .1 .0)
 
--- src/stack.rt:62:9
 part-layer-end-4 : tie.Need-part-layer-end-4
 part-layer-end-4 c =
-    let A = c .before .before .before .before .before .before .before .before .before .before .before .before .before .before .before .before .before .args in
-    let P = c .before .before .before .before .before .before .before .before .before .before .before .before .before .before .before .before .before .pre in
+    let b17 = c .before .before .before .before .before .before .before .before .before .before .before .before .before .before .before .before .before in
+    let A = b17 .args in
+    let P = b17 .pre in
     ring-room (A .w) (A .h) (A .n) (A .h * A .w) (A .i) (length (A .rings .now)) refl (P .1 .0 .rings-long) (P .0 .2)
 
--- src/stack.rt:57:5
 layer-requires : tie.Need-layer-requires
 layer-requires c κs =
-    let A = c .before .before .before .before .before .before .before .before .before .before .before .before .before .before .before .before .before .before .before .before .before .before .before .before .before .args in
-    let P = c .before .before .before .before .before .before .before .before .before .before .before .before .before .before .before .before .before .before .before .before .before .before .before .before .before .pre in
+    let b20 = c .before .before .before .before .before .before .before .before .before .before .before .before .before .before .before .before .before .before .before .before in
+    let b25 = b20 .before .before .before .before .before in
+    let A = b25 .args in
+    let P = b25 .pre in
     let B = P .1 .0 in
     let es = plane-size (A .w) (A .h) (A .rb) (P .0 .0) .0 in
     let size = A .h * A .rb in (
@@ -109,17 +112,22 @@ layer-requires c κs =
           lent-support (A .w) (A .h) (A .n) size (A .i) (A .support .now) es (B .support-long) (omega (arith, P .0 .2)),
           lent-rings (A .w) (A .h) (A .n) (A .i) (A .rings .now) (B .rings-long) (P .0 .2),
         ),
-        (above-apart (A .w) (A .h) (A .n) (A .q .0) size (A .i) (P .0 .0 .sizes .w-min) (A .part .now) (A .support .now) (A .rings .now) (A .above .now) es (B .part-long) (P .0 .2) (P .1 .1 .0), P .1 .1 .1),
+        (
+          above-apart (A .w) (A .h) (A .n) (A .q .0) size (A .i) (P .0 .0 .sizes .w-min) (A .part .now) (A .support .now) (A .rings .now) (A .above .now) es (B .part-long) (P .0 .2) (P .1 .1 .0),
+          P .1 .1 .1,
+        ),
       ),
     )
 
--- src/stack.rt:75:9
 part-put-end : tie.Need-part-put-end
 part-put-end c =
-    let A = c .before .before .before .before .before .before .before .before .before .before .before .before .before .before .before .before .before .before .before .before .before .before .before .before .before .before .before .before .before .before .before .before .before .before .before .before .before .before .before .before .before .before .before .before .before .args in
-    let P = c .before .before .before .before .before .before .before .before .before .before .before .before .before .before .before .before .before .before .before .before .before .before .before .before .before .before .before .before .before .before .before .before .before .before .before .before .before .before .before .before .before .before .before .before .before .pre in
+    let b19 = c .before .before .before .before .before .before .before .before .before .before .before .before .before .before .before .before .before .before .before in
+    let b39 = b19 .before .before .before .before .before .before .before .before .before .before .before .before .before .before .before .before .before .before .before .before in
+    let b45 = b39 .before .before .before .before .before .before in
+    let A = b45 .args in
+    let P = b45 .pre in
     let B = P .1 .0 in
-    let L = c .before .before .before .before .before .before .before .before .before .before .before .before .before .before .before .before .before .before .before .layer in
+    let L = b19 .layer in
     let size = A .h * A .rb in
     let es = plane-size (A .w) (A .h) (A .rb) (P .0 .0) .0 in
     let room = layer-room (A .w) (A .h) (A .n) size (A .i) (length (A .support .now)) es (B .support-long) (omega (arith, P .0 .2)) in
@@ -127,45 +135,54 @@ part-put-end c =
     let X = L .last .1 .1 .1 .0 in
     omega (arith, room, same-len-mid (A .i * size) (A .i * size + size - A .i * size) (A .support .now) X (L .kept .1 .1 .1 .0))
 
--- src/stack.rt:75:5
 put-requires : tie.Need-put-requires
 put-requires c κs =
-    let A = c .before .before .before .before .before .before .before .before .before .before .before .before .before .before .before .before .before .before .before .before .before .before .before .before .before .before .before .before .before .before .before .before .before .before .before .before .before .before .before .before .before .before .before .before .before .before .before .args in
-    let P = c .before .before .before .before .before .before .before .before .before .before .before .before .before .before .before .before .before .before .before .before .before .before .before .before .before .before .before .before .before .before .before .before .before .before .before .before .before .before .before .before .before .before .before .before .before .before .before .pre in
+    let b20 = c .before .before .before .before .before .before .before .before .before .before .before .before .before .before .before .before .before .before .before .before in
+    let b21 = b20 .before in
+    let b41 = b21 .before .before .before .before .before .before .before .before .before .before .before .before .before .before .before .before .before .before .before .before in
+    let b47 = b41 .before .before .before .before .before .before in
+    let A = b47 .args in
+    let P = b47 .pre in
     let B = P .1 .0 in
-    let L = c .before .before .before .before .before .before .before .before .before .before .before .before .before .before .before .before .before .before .before .before .before .layer in
+    let L = b21 .layer in
     let size = A .h * A .rb in
     let es = plane-size (A .w) (A .h) (A .rb) (P .0 .0) .0 in
     let room = layer-room (A .w) (A .h) (A .n) size (A .i) (length (A .support .now)) es (B .support-long) (omega (arith, P .0 .2)) in
     let lent = lent-support (A .w) (A .h) (A .n) size (A .i) (A .support .now) es (B .support-long) (omega (arith, P .0 .2)) in
     let X = L .last .1 .1 .1 .0 in
-    P .1 .1 .0 .above-is .clean .long ∙ sym (ap length (mid-put (A .i * size) (A .i * size + size - A .i * size) (A .support .now) X (omega (arith, room)) (L .kept .1 .1 .1 .0 ∙ lent ∙ sym es ∙ omega arith)) ∙ L .kept .1 .1 .1 .0 ∙ lent)
+    P .1 .1 .0 .above-is .clean .long ∙ sym (ap length (mid-put (A .i * size) (A .i * size + size - A .i * size) (A .support .now) X (omega (arith, room))
+    (L .kept .1 .1 .1 .0 ∙ lent ∙ sym es ∙ omega arith)) ∙ L .kept .1 .1 .1 .0 ∙ lent)
 
--- src/stack.rt:26:1
 same-length : tie.Need-same-length
 same-length c =
-    let A = c .before .before .before .before .before .before .before .before .before .before .before .before .before .before .before .before .before .before .before .before .before .before .before .before .before .before .before .before .before .before .before .before .before .before .before .before .before .before .before .before .before .before .before .before .before .before .before .before .before .before .args in
+    let b20 = c .before .before .before .before .before .before .before .before .before .before .before .before .before .before .before .before .before .before .before .before in
+    let b24 = b20 .before .before .before .before in
+    let b44 = b24 .before .before .before .before .before .before .before .before .before .before .before .before .before .before .before .before .before .before .before .before in
+    let b50 = b44 .before .before .before .before .before .before in
+    let A = b50 .args in
     let size = A .h * A .rb in
-    same-len-mid (A .i * size) (A .i * size + size - A .i * size) (A .support .now) (c .before .before .before .before .before .before .before .before .before .before .before .before .before .before .before .before .before .before .before .before .before .before .before .before .layer .last .1 .1 .1 .0) (c .before .before .before .before .before .before .before .before .before .before .before .before .before .before .before .before .before .before .before .before .before .before .before .before .layer .kept .1 .1 .1 .0)
+    same-len-mid (A .i * size) (A .i * size + size - A .i * size) (A .support .now) (b24 .layer .last .1 .1 .1 .0) (b24 .layer .kept .1 .1 .1 .0)
 
--- src/stack.rt:26:1
 same-length-2 : tie.Need-same-length-2
 same-length-2 c =
-    let A = c .before .before .before .before .before .before .before .before .before .before .before .before .before .before .before .before .before .before .before .before .before .before .before .before .before .before .before .before .before .before .before .before .before .before .before .before .before .before .before .before .before .before .before .before .before .before .before .before .before .before .args in
+    let b20 = c .before .before .before .before .before .before .before .before .before .before .before .before .before .before .before .before .before .before .before .before in
+    let b24 = b20 .before .before .before .before in
+    let b44 = b24 .before .before .before .before .before .before .before .before .before .before .before .before .before .before .before .before .before .before .before .before in
+    let b50 = b44 .before .before .before .before .before .before in
+    let A = b50 .args in
     let area = A .h * A .w in
-    same-len-mid (A .i * area) (A .i * area + area - A .i * area) (A .rings .now) (c .before .before .before .before .before .before .before .before .before .before .before .before .before .before .before .before .before .before .before .before .before .before .before .before .layer .last .1 .1 .1 .1 .0) (c .before .before .before .before .before .before .before .before .before .before .before .before .before .before .before .before .before .before .before .before .before .before .before .before .layer .kept .1 .1 .1 .1 .0)
+    same-len-mid (A .i * area) (A .i * area + area - A .i * area) (A .rings .now) (b24 .layer .last .1 .1 .1 .1 .0) (b24 .layer .kept .1 .1 .1 .1 .0)
 
--- src/stack.rt:26:1
-same-length-3 : tie.Need-same-length-3
-same-length-3 c = c .before .before .put .kept .1 .0
-
--- src/stack.rt:26:1
 returns : tie.Need-returns
 returns c =
-    let A = c .before .before .before .before .before .before .before .before .before .before .before .before .before .before .before .before .before .before .before .before .before .before .before .before .before .before .before .before .before .before .before .before .before .before .before .before .before .before .before .before .before .before .before .before .before .before .before .before .before .before .args in
-    let P = c .before .before .before .before .before .before .before .before .before .before .before .before .before .before .before .before .before .before .before .before .before .before .before .before .before .before .before .before .before .before .before .before .before .before .before .before .before .before .before .before .before .before .before .before .before .before .before .before .before .before .pre in
+    let b20 = c .before .before .before .before .before .before .before .before .before .before .before .before .before .before .before .before .before .before .before .before in
+    let b24 = b20 .before .before .before .before in
+    let b44 = b24 .before .before .before .before .before .before .before .before .before .before .before .before .before .before .before .before .before .before .before .before in
+    let b50 = b44 .before .before .before .before .before .before in
+    let A = b50 .args in
+    let P = b50 .pre in
     let B = P .1 .0 in
-    let L = c .before .before .before .before .before .before .before .before .before .before .before .before .before .before .before .before .before .before .before .before .before .before .before .before .layer in
+    let L = b24 .layer in
     let size = A .h * A .rb in
     let es = plane-size (A .w) (A .h) (A .rb) (P .0 .0) .0 in
     let room = layer-room (A .w) (A .h) (A .n) size (A .i) (length (A .support .now)) es (B .support-long) (omega (arith, P .0 .2)) in
@@ -176,17 +193,19 @@ returns c =
     let e : above′ ≡ X = T .ensures ∙ mid-put (A .i * size) (A .i * size + size - A .i * size) (A .support .now) X (omega (arith, room)) (L .kept .1 .1 .1 .0 ∙ lent ∙ sym es ∙ omega arith) in
     let rings′ = putMid (A .i * (A .h * A .w)) (A .i * (A .h * A .w) + A .h * A .w - A .i * (A .h * A .w)) (A .rings .now) (L .last .1 .1 .1 .1 .0) in (
       subst (λ (ys : List ℕ). Down (A .w) (A .h) (A .n) (A .q .0) (A .i) (A .part .now) (putMid (A .i * size) (A .i * size + size - A .i * size) (A .support .now) ys) rings′ above′) e
-          (layer-done (A .w) (A .h) (A .n) (A .q .0) (P .0 .0 .sizes .w-min) (A .part .now) (B .part-long) (A .i) (A .support .now) (A .rings .now) (A .above .now) above′ (L .last .1 .1 .1 .1 .0) (P .0 .2) (B .support-long) (B .rings-long) (P .1 .1 .0)
+          (layer-done (A .w) (A .h) (A .n) (A .q .0) (P .0 .0 .sizes .w-min) (A .part .now) (B .part-long) (A .i) (A .support .now) (A .rings .now) (A .above .now) above′ (L .last .1 .1 .1 .1 .0)
+          (P .0 .2) (B .support-long) (B .rings-long) (P .1 .1 .0)
           size es (T .kept .1 .0 ∙ P .1 .1 .0 .above-is .clean .long ∙ sym lent) (L .kept .1 .1 .1 .1 .0) (L .ensures .0) (λ b. c .slice-known20 .given b .fits)
-          (subst (Packs (A .w) (A .h) (pairSupport (A .w) (A .h) (A .q .0) (packed (A .w) (cutLow size (A .i) (A .part .now))) (packed (A .w) (cutUp size (A .i) (A .part .now))) (packed (A .w) (A .above .now)))) (sym e) (L .ensures .1 .0))),
+          (subst (Packs (A .w) (A .h) (pairSupport (A .w) (A .h) (A .q .0) (packed (A .w) (cutLow size (A .i) (A .part .now))) (packed (A .w) (cutUp size (A .i) (A .part .now)))
+          (packed (A .w) (A .above .now)))) (sym e) (L .ensures .1 .0))),
       L .ensures .1 .1,
     )
 
 pub layer-at-spec : {M : Type 1} → statement M
 layer-at-spec =
     tie.close
-    (tie.spec mul-size mul-area mul-a add-m mul-x (λ c. search needs) (λ c. search needs) part-layer-end add-layer (λ c. search needs)
-    (λ c. search needs) part-layer-end-2 (λ c. search needs) (λ c. search needs) part-layer-end-3 add-layer-2 mul-layer (λ c. search needs)
-    (λ c. search needs) part-layer-end-4 layer-requires (λ c. search needs) (λ c. search needs) part-put-end put-requires same-length
-    same-length-2 same-length-3 (λ c. search needs) (λ c. search needs) (λ c. search needs) (λ c. search needs) (λ c. search needs)
+    (tie.spec mul-size mul-area mul-a add-m mul-x (λ c. search needs) (λ c. search needs) part-layer-end add-layer (λ c. search needs) (λ c. search needs)
+    part-layer-end-2 (λ c. search needs) (λ c. search needs) part-layer-end-3 add-layer-2 mul-layer (λ c. search needs) (λ c. search needs)
+    part-layer-end-4 layer-requires (λ c. search needs) (λ c. search needs) part-put-end put-requires same-length same-length-2
+    (λ c. c .before .before .put .kept .1 .0) (λ c. search needs) (λ c. search needs) (λ c. search needs) (λ c. search needs) (λ c. search needs)
     (λ c. search needs) (λ c. search needs) returns)

@@ -15,36 +15,28 @@ Inv-loop from to₀ i₀ to i =
 abbrev μ-loop : tie.MeasureT-loop
 μ-loop from to₀ i₀ to i = length from - i
 
--- src/stack.rt:18:5
-loop-holds : tie.Need-loop-holds Inv-loop μ-loop
-loop-holds c = (refl, omega arith, λ k x. absurd (omega arith))
-
--- src/stack.rt:19:9
 slice-write-to : tie.Need-slice-write-to Inv-loop μ-loop
 slice-write-to c = omega (arith, c .before .loop-test .taken, c .before .before .loop .inv .0, c .before .before .before .pre)
 
--- src/stack.rt:18:5
-loop-less : tie.Need-loop-less Inv-loop μ-loop
-loop-less c = omega (arith, c .before .loop-test .taken)
-
--- src/stack.rt:18:5
 loop-again : tie.Need-loop-again Inv-loop μ-loop
 loop-again c =
-    let A = c .before .before .before .args in
-    let L = c .before .before .loop in
-    (length-set (L .to) (L .i) _ ∙ L .inv .0, omega (arith, c .before .loop-test .taken), put-more (L .to) (A .from .now) (L .i) (omega (arith, c .before .loop-test .taken, L .inv .0, c .before .before .before .pre)) (L .inv .2))
+    let b3 = c .before .before .before in
+    let A = b3 .args in
+    let L = c .before .before .loop in (
+      length-set (L .to) (L .i) _ ∙ L .inv .0,
+      omega (arith, c .before .loop-test .taken),
+      put-more (L .to) (A .from .now) (L .i) (omega (arith, c .before .loop-test .taken, L .inv .0, b3 .pre))
+          (L .inv .2),
+    )
 
--- src/stack.rt:13:1
-same-length : tie.Need-same-length Inv-loop μ-loop
-same-length c = c .before .loop .inv .0
-
--- src/stack.rt:13:1
 returns : tie.Need-returns Inv-loop μ-loop
 returns c =
+    let b2 = c .before .before in
     let L = c .before .loop in
-    ext-getD 0 (L .to) (c .before .before .args .from .now) (L .inv .0 ∙ c .before .before .pre) (λ k lk. L .inv .2 k (omega (arith, c .loop-test .left, L .inv .0, c .before .before .pre)))
+    ext-getD 0 (L .to) (b2 .args .from .now) (L .inv .0 ∙ b2 .pre) (λ k lk. L .inv .2 k (omega (arith, c .loop-test .left, L .inv .0, b2 .pre)))
 
 pub put-spec : {M : Type 1} → statement M
 put-spec =
     tie.close
-    (tie.spec Inv-loop μ-loop loop-holds (λ c. search needs) slice-write-to (λ c. search needs) loop-less loop-again same-length returns)
+    (tie.spec Inv-loop μ-loop (λ c. (refl, omega arith, λ k x. absurd (omega arith))) (λ c. search needs) slice-write-to (λ c. search needs)
+    (λ c. omega (arith, c .before .loop-test .taken)) loop-again (λ c. c .before .loop .inv .0) returns)

@@ -1,5 +1,5 @@
 use Rattle.quick.specs.Layers.{Reading, framed-more, reading-more, read-all}
-use Rattle.quick.specs.Holding.{row-room}
+use Rattle.quick.specs.RowsOfPair.{row-room}
 use Rattle.places.specs.Rows.{fit-of}
 use Rattle.planes.specs.Scratch.{Framed}
 use mathlib.Core.Path.{_≡_}
@@ -16,40 +16,52 @@ Inv-loop s out₀ w h rb r₀ out r = (r ≤ h) × (length out ≡ 1610) × Fram
 abbrev μ-loop : tie.MeasureT-loop
 μ-loop s out₀ w h rb r₀ out r = h - r
 
--- src/layers.rt:14:5
 loop-holds : tie.Need-loop-holds Inv-loop μ-loop
 loop-holds c = (omega arith, c .before .before .before .pre .1 .1 .long, c .before .before .before .pre .1 .1 .framed, λ y k l. absurd (omega arith))
 
--- src/layers.rt:15:32
 add-put : tie.Need-add-put Inv-loop μ-loop
 add-put c = omega (arith, c .before .before .before .before .before .before .pre .0 .h-high)
 
--- src/layers.rt:15:61
 mul-read : tie.Need-mul-read Inv-loop μ-loop
-mul-read c = omega (arith, fit-of (c .before .before .loop .r) (c .before .before .before .row-bytes .result) 256 32 (omega (arith, c .before .before .before .before .before .before .pre .0 .h-high)) (c .before .before .before .row-bytes .ensures .1))
+mul-read c =
+    let b3 = c .before .before .before in let b6 = b3 .before .before .before in
+    omega (arith, fit-of (c .before .before .loop .r) (b3 .row-bytes .result) 256 32 (omega (arith, b6 .pre .0 .h-high)) (b3 .row-bytes .ensures .1))
 
--- src/layers.rt:15:40
 read-requires : tie.Need-read-requires Inv-loop μ-loop
-read-requires c κs = (row-room (c .before .before .before .before .before .before .args .w) (c .before .before .before .before .before .before .args .h) (c .before .before .loop .r) (c .before .before .before .row-bytes .result) _ (omega arith) (c .before .before .before .row-bytes .ensures .0) (omega (arith, c .before .before .before .before .before .before .pre .1 .0 .long)), c .before .before .before .row-bytes .ensures .1)
+read-requires c κs =
+    let b3 = c .before .before .before in let b6 = b3 .before .before .before in (
+      row-room (b6 .args .w) (b6 .args .h) (c .before .before .loop .r) (b3 .row-bytes .result) _ (omega arith) (b3 .row-bytes .ensures .0) (omega (arith, b6 .pre .1 .0 .long)),
+      b3 .row-bytes .ensures .1,
+    )
 
--- src/layers.rt:15:9
 put-requires : tie.Need-put-requires Inv-loop μ-loop
-put-requires c κs = (c .before .before .before .loop .inv .1, omega (arith, c .before .before .before .before .before .before .before .pre .0 .h-high))
+put-requires c κs =
+    let b3 = c .before .before .before in let b7 = b3 .before .before .before .before in
+    (b3 .loop .inv .1, omega (arith, b7 .pre .0 .h-high))
 
--- src/layers.rt:16:9
 add-r : tie.Need-add-r Inv-loop μ-loop
 add-r c = omega (arith, c .before .before .before .before .before .before .before .before .before .before .pre .0 .h-high)
 
--- src/layers.rt:14:5
 loop-again : tie.Need-loop-again Inv-loop μ-loop
-loop-again c = (omega arith, omega (arith, c .before .before .put .kept .0), framed-more (c .before .before .before .before .before .before .before .before .before .before .args .w) (c .before .before .before .before .before .before .before .before .before .before .args .h) (c .before .before .before .before .before .before .before .row-bytes .result) (c .before .before .before .before .before .before .loop .r) (c .before .before .before .before .before .before .before .before .before .before .args .s .now) (c .before .before .before .before .before .before .loop .out) _ _ (c .before .before .before .before .before .before .before .before .before .before .pre .0) (c .before .before .before .before .before .before .before .before .before .before .pre .1 .0) (omega arith) (c .before .before .before .before .before .before .before .row-bytes .ensures .0) (c .before .before .before .read .ensures) (c .before .before .put .ensures) (c .before .before .before .before .before .before .loop .inv .2), reading-more (c .before .before .before .before .before .before .before .before .before .before .args .w) (c .before .before .before .before .before .before .before .before .before .before .args .h) (c .before .before .before .before .before .before .before .row-bytes .result) (c .before .before .before .before .before .before .loop .r) (c .before .before .before .before .before .before .before .before .before .before .args .s .now) (c .before .before .before .before .before .before .loop .out) _ _ (c .before .before .before .before .before .before .before .before .before .before .pre .0) (c .before .before .before .before .before .before .before .before .before .before .pre .1 .0) (omega arith) (c .before .before .before .before .before .before .before .row-bytes .ensures .0) (c .before .before .before .read .ensures) (c .before .before .put .ensures) (c .before .before .before .before .before .before .loop .inv .3))
+loop-again c =
+    let b2 = c .before .before in let b3 = b2 .before in let b6 = b3 .before .before .before in let b7 = b6 .before in let b10 = b7 .before .before .before in
+    let args = b10 .args in let pre = b10 .pre in (
+      omega arith,
+      omega (arith, b2 .put .kept .0),
+      framed-more (args .w) (args .h) (b7 .row-bytes .result) (b6 .loop .r) (args .s .now) (b6 .loop .out) _ _ (pre .0) (pre .1 .0) (omega arith)
+          (b7 .row-bytes .ensures .0) (b3 .read .ensures) (b2 .put .ensures) (b6 .loop .inv .2),
+      reading-more (args .w) (args .h) (b7 .row-bytes .result) (b6 .loop .r) (args .s .now) (b6 .loop .out)
+          _ _ (pre .0) (pre .1 .0) (omega arith) (b7 .row-bytes .ensures .0) (b3 .read .ensures) (b2 .put .ensures) (b6 .loop .inv .3),
+    )
 
--- src/layers.rt:8:1
 returns : tie.Need-returns Inv-loop μ-loop
-returns c = read-all (c .before .before .before .before .before .args .w) (c .before .before .before .before .before .args .h) (c .before .loop .r) (c .before .before .before .before .before .args .s .now) (c .before .loop .out) (c .before .before .before .before .before .pre .0) (omega arith) (c .before .loop .inv .1) (c .before .loop .inv .2) (c .before .loop .inv .3)
+returns c =
+    let b5 = c .before .before .before .before .before in
+    read-all (b5 .args .w) (b5 .args .h) (c .before .loop .r) (b5 .args .s .now) (c .before .loop .out) (b5 .pre .0) (omega arith) (c .before .loop .inv .1) (c .before .loop .inv .2)
+    (c .before .loop .inv .3)
 
 pub read-spec : {M : Type 1} → statement M
 read-spec =
     tie.close
-    (tie.spec Inv-loop μ-loop (λ c κs. search needs) loop-holds add-put mul-read read-requires put-requires add-r (λ c. search needs)
-    loop-again (λ c. search needs) returns)
+    (tie.spec Inv-loop μ-loop (λ c κs. search needs) loop-holds add-put mul-read read-requires put-requires add-r (λ c. search needs) loop-again
+    (λ c. search needs) returns)

@@ -1,6 +1,6 @@
 use Rattle.places.specs.Rows.{gather-more}
 use Rattle.places.specs.BitLaws.{no-bit}
-use Rattle.quick.specs.Sound.{NoShadow, NoneHangs}
+use Rattle.quick.specs.Sureness.{NoShadow, NoneHangs}
 use mathlib.Core.Path.{_≡_, sym, _∙_}
 use Prim.Native.Nat.{ℕ, _≤_, _<_, _-_}
 use native.Mathlib.Omega.{arith}
@@ -28,17 +28,22 @@ shared-slice-read-hanging : tie.Need-shared-slice-read-hanging Inv-loop μ-loop
 shared-slice-read-hanging c = omega (arith, c .before .before .before .before .before .before .before .before .before .before .pre .low-long)
 
 shared-slice-read-hanging-2 : tie.Need-shared-slice-read-hanging-2 Inv-loop μ-loop
-shared-slice-read-hanging-2 c = omega (arith, c .before .before .before .before .before .before .before .before .before .before .before .pre .below-long)
+shared-slice-read-hanging-2 c =
+    let b11 = c .before .before .before .before .before .before .before .before .before .before .before in
+    omega (arith, b11 .pre .below-long)
 
 shared-slice-read-hanging-3 : tie.Need-shared-slice-read-hanging-3 Inv-loop μ-loop
-shared-slice-read-hanging-3 c = omega (arith, c .before .before .before .before .before .before .before .before .before .before .before .before .pre .above-long)
+shared-slice-read-hanging-3 c =
+    let b12 = c .before .before .before .before .before .before .before .before .before .before .before .before in
+    omega (arith, b12 .pre .above-long)
 
 loop-again : tie.Need-loop-again Inv-loop μ-loop
 loop-again c =
-    let a = c .before .before .before .before .before .before .before .before .before .before .before .before .before .args in
-    let l = c .before .before .before .before .before .before .before .before .loop in (
+    let b4 = c .before .before .before .before in let b8 = b4 .before .before .before .before in let b13 = b8 .before .before .before .before .before in
+    let a = b13 .args in
+    let l = b8 .loop in (
       omega arith,
-      gather-more (NoShadow (a .low .now) (a .up .now)) (l .j) (l .shade) _ (l .inv .1) (λ e k k8. sym (c .before .before .before .before .shadow .ensures k k8) ∙ no-bit _ k e),
+      gather-more (NoShadow (a .low .now) (a .up .now)) (l .j) (l .shade) _ (l .inv .1) (λ e k k8. sym (b4 .shadow .ensures k k8) ∙ no-bit _ k e),
       gather-more (NoneHangs (a .low .now) (a .below .now) (a .above .now)) (l .j) (l .hung) _ (l .inv .2) (λ e k k8. sym (c .hanging .ensures k k8) ∙ no-bit _ k e),
     )
 

@@ -10,18 +10,20 @@ use Rattle.quick.proofs.pair.row.Tie as tie
 
 bare-requires : tie.Need-bare-requires
 bare-requires c κs =
-    let p = c .before .before .before .before .before .pre in
-    let i = row-in (c .before .before .before .before .before .args .r) (c .before .before .before .before .before .args .h) (c .before .before .before .before .before .args .w) (p .0 .0 .1) in
-    (p .1 .1, omega (arith, i, p .0 .1 .1 .1), omega (arith, i, area-fit (c .before .before .before .before .before .args .w) (c .before .before .before .before .before .args .h) (p .0 .0 .0)))
-
-returns : tie.Need-returns
-returns c = ((λ e. clash e refl), ((λ e. clash e refl), λ e. clash e refl))
+    let b5 = c .before .before .before .before .before in let args = b5 .args in
+    let p = b5 .pre in
+    let i = row-in (args .r) (args .h) (args .w) (p .0 .0 .1) in
+    (p .1 .1, omega (arith, i, p .0 .1 .1 .1), omega (arith, i, area-fit (args .w) (args .h) (p .0 .0 .0)))
 
 shaded-row-requires : tie.Need-shaded-row-requires
-shaded-row-requires c κs = (c .before .before .before .before .before .before .before .pre .0, c .before .before .before .before .before .before .before .pre .1 .0)
+shaded-row-requires c κs =
+    let b7 = c .before .before .before .before .before .before .before in
+    (b7 .pre .0, b7 .pre .1 .0)
 
 returns-2 : tie.Need-returns-2
 returns-2 c = ((λ e. c .before .before .bare .ensures (not-false _ (c .before .if1 .left))), c .shaded-row .ensures)
 
 pub row-spec : {M : Type 1} → statement M
-row-spec = tie.close (tie.spec bare-requires (λ c κs. search needs) returns shaded-row-requires returns-2)
+row-spec =
+    tie.close
+    (tie.spec bare-requires (λ c κs. search needs) (λ c. ((λ e. clash e refl), ((λ e. clash e refl), λ e. clash e refl))) shaded-row-requires returns-2)

@@ -5,11 +5,11 @@ use Rattle.places.specs.Rows.{area-fit}
 use borrow.Author.Tests.{not-false}
 use borrow.Author.Count.{below-more}
 use mathlib.Core.Path.{_≡_, refl, sym, _∙_}
-use Prim.Native.Nat.{ℕ, _+_, _*_, _≤_, _<_, _-_}
+use Prim.Native.Nat.{ℕ, _≤_, _<_, _-_}
 use mathlib.Core.Bool.{true}
 use lib.ListN.{length}
-use Rattle.quick.specs.Sound.{Long, Shadeless, Row-good, Row-held}
-use Rattle.quick.specs.Holding.{bare-sound, bare-held, rows-more, low-long}
+use Rattle.quick.specs.Sureness.{Shadeless, Row-good, Row-held}
+use Rattle.quick.specs.RowsOfPair.{bare-sound, bare-held, rows-more, low-long}
 use native.Mathlib.Omega.{arith}
 use borrow.Author.Needs.{needs}
 use Rattle.quick.proofs.pair.rows.Statement.{statement}
@@ -25,64 +25,77 @@ abbrev μ-loop : tie.MeasureT-loop
 μ-loop low up below rings ones disc₀ halves w h q t held₀ drawn₀ from₀ r₀ disc held drawn from r = h - r
 
 shaded-requires : tie.Need-shaded-requires Inv-loop μ-loop
-shaded-requires c κs = (c .before .before .before .before .before .before .before .pre .0 .0, (omega arith, low-long (c .before .before .before .before .before .before .before .pre .0 .1 .1 .0)))
+shaded-requires c κs =
+    let b7 = c .before .before .before .before .before .before .before in
+    (b7 .pre .0 .0, (omega arith, low-long (b7 .pre .0 .1 .1 .0)))
 
 loop-holds : tie.Need-loop-holds Inv-loop μ-loop
 loop-holds c =
+    let b8 = c .before .before .before .before .before .before .before .before in
     let s = c .shaded .ensures in
-    (s .0, s .1, refl, (c .before .before .before .before .before .before .before .before .pre .1 .1 .0, λ e. clash e refl), s .2, (λ y l. absurd (omega arith)), λ e y l. absurd (omega arith))
+    (s .0, s .1, refl, (b8 .pre .1 .1 .0, λ e. clash e refl), s .2, (λ y l. absurd (omega arith)), λ e y l. absurd (omega arith))
 
 row-requires : tie.Need-row-requires Inv-loop μ-loop
-row-requires c κs = (((c .before .before .before .before .before .before .before .before .before .before .pre .0 .0, omega arith), c .before .before .before .before .before .before .before .before .before .before .pre .0 .1), (c .before .before .before .before .before .before .before .before .before .before .pre .1 .0 .0, c .before .loop .inv .0))
+row-requires c κs =
+    let b10 = c .before .before .before .before .before .before .before .before .before .before in
+    (((b10 .pre .0 .0, omega arith), b10 .pre .0 .1), (b10 .pre .1 .0 .0, c .before .loop .inv .0))
 
 near-all-requires : tie.Need-near-all-requires Inv-loop μ-loop
-near-all-requires c κs = (((c .before .before .before .before .before .before .before .before .before .before .before .before .pre .0 .0, omega arith), (c .before .before .before .before .before .before .before .before .before .before .before .before .pre .0 .1 .0, (c .before .before .before .before .before .before .before .before .before .before .before .before .pre .1 .0 .1, c .before .before .before .before .before .before .before .before .before .before .before .before .pre .1 .1 .1))), c .before .before .before .loop .inv .3)
+near-all-requires c κs =
+    let b3 = c .before .before .before in let b12 = b3 .before .before .before .before .before .before .before .before .before in let pre = b12 .pre in
+    (((pre .0 .0, omega arith), (pre .0 .1 .0, (pre .1 .0 .1, pre .1 .1 .1))), b3 .loop .inv .3)
 
 same-length : tie.Need-same-length Inv-loop μ-loop
-same-length c = c .before .before .before .before .near-all .kept .1 .0 ∙ c .before .before .before .before .before .before .before .before .loop .inv .2
-
-returns : tie.Need-returns Inv-loop μ-loop
-returns c = ((λ e. clash e refl), λ e. clash e refl)
+same-length c =
+    let b4 = c .before .before .before .before in let b8 = b4 .before .before .before .before in
+    b4 .near-all .kept .1 .0 ∙ b8 .loop .inv .2
 
 add-from : tie.Need-add-from Inv-loop μ-loop
-add-from c = omega (arith, c .before .before .before .before .before .before .before .before .before .before .before .before .before .before .before .before .before .before .pre .0 .0 .h-high)
+add-from c =
+    let b18 = c .before .before .before .before .before .before .before .before .before .before .before .before .before .before .before .before .before .before in
+    omega (arith, b18 .pre .0 .0 .h-high)
 
 shaded-requires-2 : tie.Need-shaded-requires-2 Inv-loop μ-loop
-shaded-requires-2 c κs = (c .before .before .before .before .before .before .before .before .before .before .before .before .before .before .before .before .before .before .pre .0 .0, (omega arith, low-long (c .before .before .before .before .before .before .before .before .before .before .before .before .before .before .before .before .before .before .pre .0 .1 .1 .0)))
+shaded-requires-2 c κs =
+    let b18 = c .before .before .before .before .before .before .before .before .before .before .before .before .before .before .before .before .before .before in
+    (b18 .pre .0 .0, (omega arith, low-long (b18 .pre .0 .1 .1 .0)))
 
 loop-again : tie.Need-loop-again Inv-loop μ-loop
 loop-again c =
-    let a = c .before .before .before .before .before .before .before .before .before .before .before .before .before .before .before .before .before .before .before .args in
-    let l = c .before .before .before .before .before .before .before .before .before .before .loop in
-    let s = c .before .before .before .before .before .before .before .before .row .ensures in
-    let n = c .before .before .before .before .before .before .near-all .ensures in
-    let b = sym (c .before .before .before .both .ensures) ∙ not-false _ (c .before .before .if1 .left) in
-    let g = and-l (c .before .before .before .before .before .before .before .before .row .result .rings) (c .before .before .before .before .before .before .near-all .result .good) b in
+    let b3 = c .before .before .before in let b6 = b3 .before .before .before in let b8 = b6 .before .before in let b10 = b8 .before .before in
+    let b19 = b10 .before .before .before .before .before .before .before .before .before in
+    let a = b19 .args in
+    let l = b10 .loop in
+    let s = b8 .row .ensures in
+    let n = b6 .near-all .ensures in
+    let b = sym (b3 .both .ensures) ∙ not-false _ (c .before .before .if1 .left) in
+    let g = and-l (b8 .row .result .rings) (b6 .near-all .result .good) b in
     let d = c .shaded2 .ensures in
     let G : ℕ → Type 0 = Row-good (a .w) (a .h) (a .q .0) (a .t) (a .low .now) (a .up .now) (a .rings .now) in
     let H : ℕ → Type 0 = Row-held (a .w) (a .low .now) (a .up .now) (a .below .now) (a .rings .now) in (
       d .0,
       d .1,
-      c .before .before .before .before .before .before .near-all .kept .1 .0 ∙ l .inv .2,
+      b6 .near-all .kept .1 .0 ∙ l .inv .2,
       n .1,
       d .2,
       below-more G (l .r) (rows-more G (l .from) (l .r) (l .inv .5) (λ y lo hi. bare-sound (a .w) (a .h) (a .t) y _ (a .low .now) (a .up .now) (a .rings .now) (s .0 g y lo hi)))
-          (λ k lk. let u = s .1 .0 g k lk in (u .0, λ v. n .0 (and-r (c .before .before .before .before .before .before .before .before .row .result .rings) (c .before .before .before .before .before .before .near-all .result .good) b) k lk (u .1 v))),
+          (λ k lk. let u = s .1 .0 g k lk in (u .0, λ v. n .0 (and-r (b8 .row .result .rings) (b6 .near-all .result .good) b) k lk (u .1 v))),
       λ e.
           let f = sym (c .before .both2 .ensures) ∙ e in
-          below-more H (l .r) (rows-more H (l .from) (l .r) (l .inv .6 (and-l (l .held) _ f)) (λ y lo hi. bare-held (a .w) y (a .low .now) (a .up .now) (a .below .now) (a .rings .now) (l .inv .4 y lo hi)))
+          below-more H (l .r) (rows-more H (l .from) (l .r) (l .inv .6 (and-l (l .held) _ f))
+          (λ y lo hi. bare-held (a .w) y (a .low .now) (a .up .now) (a .below .now) (a .rings .now) (l .inv .4 y lo hi)))
           (s .1 .1 (and-r (l .held) _ f)),
     )
 
 bare-requires : tie.Need-bare-requires Inv-loop μ-loop
-bare-requires c κs = (omega (arith, c .before .loop .inv .0, c .before .loop .inv .1), omega (arith, c .before .before .before .before .before .before .before .before .before .before .pre .0 .1 .1 .1), area-fit (c .before .before .before .before .before .before .before .before .before .before .args .w) (c .before .before .before .before .before .before .before .before .before .before .args .h) (c .before .before .before .before .before .before .before .before .before .before .pre .0 .0))
-
-same-length-2 : tie.Need-same-length-2 Inv-loop μ-loop
-same-length-2 c = c .before .before .loop .inv .2
+bare-requires c κs =
+    let b10 = c .before .before .before .before .before .before .before .before .before .before in
+    (omega (arith, c .before .loop .inv .0, c .before .loop .inv .1), omega (arith, b10 .pre .0 .1 .1 .1), area-fit (b10 .args .w) (b10 .args .h) (b10 .pre .0 .0))
 
 returns-2 : tie.Need-returns-2 Inv-loop μ-loop
 returns-2 c =
-    let a = c .before .before .before .before .before .before .before .before .before .before .before .args in
+    let b11 = c .before .before .before .before .before .before .before .before .before .before .before in
+    let a = b11 .args in
     let l = c .before .before .loop in
     let G : ℕ → Type 0 = Row-good (a .w) (a .h) (a .q .0) (a .t) (a .low .now) (a .up .now) (a .rings .now) in
     let H : ℕ → Type 0 = Row-held (a .w) (a .low .now) (a .up .now) (a .below .now) (a .rings .now) in (
@@ -93,5 +106,6 @@ returns-2 c =
 pub rows-spec : {M : Type 1} → statement M
 rows-spec =
     tie.close
-    (tie.spec Inv-loop μ-loop shaded-requires loop-holds row-requires near-all-requires (λ c κs. search needs) same-length returns (λ c κs. search needs)
-    add-from shaded-requires-2 (λ c. search needs) loop-again bare-requires same-length-2 returns-2)
+    (tie.spec Inv-loop μ-loop shaded-requires loop-holds row-requires near-all-requires (λ c κs. search needs) same-length
+    (λ c. ((λ e. clash e refl), λ e. clash e refl)) (λ c κs. search needs) add-from shaded-requires-2 (λ c. search needs) loop-again bare-requires
+    (λ c. c .before .before .loop .inv .2) returns-2)

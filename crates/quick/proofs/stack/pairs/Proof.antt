@@ -1,6 +1,6 @@
 use Rattle.quick.specs.Stacks.{pair-bytes, pair-rings, pair-fits, pair-clean, pair-long, pair-count, fine-more}
 use Rattle.places.specs.Rows.{area-fit, bytes-fit, stretch-next, stretch-end}
-use Rattle.quick.specs.Sound.{Fine}
+use Rattle.quick.specs.Sureness.{Fine}
 use Rattle.laws.specs.Tests.{clash}
 use borrow.Author.Tests.{not-false}
 use mathlib.Core.Path.{_≡_, refl, sym, _∙_}
@@ -16,86 +16,157 @@ Inv-loop part sup rings ones halves w h n q t bytes area at₀ x₀ i₀ at x i 
 abbrev μ-loop : tie.MeasureT-loop
 μ-loop part sup rings ones halves w h n q t bytes area at₀ x₀ i₀ at x i = n - 1 - i
 
--- src/stack.rt:24:21
-row-bytes-requires : tie.Need-row-bytes-requires Inv-loop μ-loop
-row-bytes-requires c κs = c .before .before .before .before .before .pre .0 .sized .w-high
-
--- src/stack.rt:24:17
 mul-bytes : tie.Need-mul-bytes Inv-loop μ-loop
-mul-bytes c = omega (arith, bytes-fit (c .before .before .before .before .before .before .args .w) (c .before .before .before .before .before .before .args .h) (c .row-bytes .result) (c .before .before .before .before .before .before .pre .0 .sized) (c .row-bytes .ensures .1))
+mul-bytes c =
+    let b6 = c .before .before .before .before .before .before in
+    omega (arith, bytes-fit (b6 .args .w) (b6 .args .h) (c .row-bytes .result) (b6 .pre .0 .sized) (c .row-bytes .ensures .1))
 
--- src/stack.rt:25:16
 mul-area : tie.Need-mul-area Inv-loop μ-loop
-mul-area c = omega (arith, area-fit (c .before .before .before .before .before .before .args .w) (c .before .before .before .before .before .before .args .h) (c .before .before .before .before .before .before .pre .0 .sized))
+mul-area c =
+    let b6 = c .before .before .before .before .before .before in
+    omega (arith, area-fit (b6 .args .w) (b6 .args .h) (b6 .pre .0 .sized))
 
--- src/stack.rt:29:5
 loop-holds : tie.Need-loop-holds Inv-loop μ-loop
 loop-holds c = (omega arith, omega arith, omega arith, λ y l. absurd (omega arith))
 
--- src/stack.rt:29:11
 add-loop : tie.Need-add-loop Inv-loop μ-loop
 add-loop c = omega (arith, c .before .before .before .before .before .before .before .pre .0 .n-high)
 
--- src/stack.rt:30:19
 add-mid : tie.Need-add-mid Inv-loop μ-loop
-add-mid c = omega (arith, pair-fits (c .before .before .before .before .before .before .before .before .args .w) (c .before .before .before .before .before .before .before .before .args .h) (c .before .before .before .before .before .before .before .before .args .n) (c .before .loop .i) (c .before .before .row-bytes .result) (c .before .loop .at) (c .before .loop .x) (c .before .before .before .before .before .before .before .before .args .part .now) (c .before .before .before .before .before .before .before .before .args .sup .now) (c .before .before .before .before .before .before .before .before .args .rings .now) (c .before .before .before .before .before .before .before .before .pre .0) (c .before .before .row-bytes .ensures .0) (c .before .before .row-bytes .ensures .1) (c .before .loop .inv .1) (c .before .loop .inv .2) (omega (arith, c .loop-test .taken)))
+add-mid c =
+    let b2 = c .before .before in let b8 = b2 .before .before .before .before .before .before in let args = b8 .args in
+    omega (
+      arith,
+      pair-fits (args .w) (args .h) (args .n) (c .before .loop .i) (b2 .row-bytes .result) (c .before .loop .at) (c .before .loop .x) (args .part .now) (args .sup .now)
+          (args .rings .now) (b8 .pre .0) (b2 .row-bytes .ensures .0) (b2 .row-bytes .ensures .1) (c .before .loop .inv .1) (c .before .loop .inv .2) (omega (arith, c .loop-test .taken)),
+    )
 
--- src/stack.rt:31:19
 add-end : tie.Need-add-end Inv-loop μ-loop
-add-end c = omega (arith, pair-fits (c .before .before .before .before .before .before .before .before .args .w) (c .before .before .before .before .before .before .before .before .args .h) (c .before .before .before .before .before .before .before .before .args .n) (c .before .loop .i) (c .before .before .row-bytes .result) (c .before .loop .at) (c .before .loop .x) (c .before .before .before .before .before .before .before .before .args .part .now) (c .before .before .before .before .before .before .before .before .args .sup .now) (c .before .before .before .before .before .before .before .before .args .rings .now) (c .before .before .before .before .before .before .before .before .pre .0) (c .before .before .row-bytes .ensures .0) (c .before .before .row-bytes .ensures .1) (c .before .loop .inv .1) (c .before .loop .inv .2) (omega (arith, c .loop-test .taken)))
+add-end c =
+    let b2 = c .before .before in let b8 = b2 .before .before .before .before .before .before in let args = b8 .args in
+    omega (
+      arith,
+      pair-fits (args .w) (args .h) (args .n) (c .before .loop .i) (b2 .row-bytes .result) (c .before .loop .at) (c .before .loop .x) (args .part .now) (args .sup .now)
+          (args .rings .now) (b8 .pre .0) (b2 .row-bytes .ensures .0) (b2 .row-bytes .ensures .1) (c .before .loop .inv .1) (c .before .loop .inv .2) (omega (arith, c .loop-test .taken)),
+    )
 
--- src/stack.rt:32:20
 add-next : tie.Need-add-next Inv-loop μ-loop
-add-next c = omega (arith, pair-fits (c .before .before .before .before .before .before .before .before .args .w) (c .before .before .before .before .before .before .before .before .args .h) (c .before .before .before .before .before .before .before .before .args .n) (c .before .loop .i) (c .before .before .row-bytes .result) (c .before .loop .at) (c .before .loop .x) (c .before .before .before .before .before .before .before .before .args .part .now) (c .before .before .before .before .before .before .before .before .args .sup .now) (c .before .before .before .before .before .before .before .before .args .rings .now) (c .before .before .before .before .before .before .before .before .pre .0) (c .before .before .row-bytes .ensures .0) (c .before .before .row-bytes .ensures .1) (c .before .loop .inv .1) (c .before .loop .inv .2) (omega (arith, c .loop-test .taken)))
+add-next c =
+    let b2 = c .before .before in let b8 = b2 .before .before .before .before .before .before in let args = b8 .args in
+    omega (
+      arith,
+      pair-fits (args .w) (args .h) (args .n) (c .before .loop .i) (b2 .row-bytes .result) (c .before .loop .at) (c .before .loop .x) (args .part .now) (args .sup .now)
+          (args .rings .now) (b8 .pre .0) (b2 .row-bytes .ensures .0) (b2 .row-bytes .ensures .1) (c .before .loop .inv .1) (c .before .loop .inv .2) (omega (arith, c .loop-test .taken)),
+    )
 
--- src/stack.rt:34:13
 part-pair-end : tie.Need-part-pair-end Inv-loop μ-loop
-part-pair-end c = omega (arith, pair-bytes (c .before .before .before .before .before .before .before .before .args .w) (c .before .before .before .before .before .before .before .before .args .h) (c .before .before .before .before .before .before .before .before .args .n) (c .before .loop .i) (c .before .before .row-bytes .result) (c .before .loop .at) (c .before .loop .x) (c .before .before .before .before .before .before .before .before .args .part .now) (c .before .before .before .before .before .before .before .before .args .sup .now) (c .before .before .before .before .before .before .before .before .args .rings .now) (c .before .before .before .before .before .before .before .before .pre .0) (c .before .before .row-bytes .ensures .0) (c .before .before .row-bytes .ensures .1) (c .before .loop .inv .1) (c .before .loop .inv .2) (omega (arith, c .loop-test .taken)))
+part-pair-end c =
+    let b2 = c .before .before in let b8 = b2 .before .before .before .before .before .before in let args = b8 .args in
+    omega (
+      arith,
+      pair-bytes (args .w) (args .h) (args .n) (c .before .loop .i) (b2 .row-bytes .result) (c .before .loop .at) (c .before .loop .x) (args .part .now) (args .sup .now)
+          (args .rings .now) (b8 .pre .0) (b2 .row-bytes .ensures .0) (b2 .row-bytes .ensures .1) (c .before .loop .inv .1) (c .before .loop .inv .2) (omega (arith, c .loop-test .taken)),
+    )
 
--- src/stack.rt:35:13
 part-pair-end-2 : tie.Need-part-pair-end-2 Inv-loop μ-loop
-part-pair-end-2 c = omega (arith, pair-bytes (c .before .before .before .before .before .before .before .before .before .args .w) (c .before .before .before .before .before .before .before .before .before .args .h) (c .before .before .before .before .before .before .before .before .before .args .n) (c .before .before .loop .i) (c .before .before .before .row-bytes .result) (c .before .before .loop .at) (c .before .before .loop .x) (c .before .before .before .before .before .before .before .before .before .args .part .now) (c .before .before .before .before .before .before .before .before .before .args .sup .now) (c .before .before .before .before .before .before .before .before .before .args .rings .now) (c .before .before .before .before .before .before .before .before .before .pre .0) (c .before .before .before .row-bytes .ensures .0) (c .before .before .before .row-bytes .ensures .1) (c .before .before .loop .inv .1) (c .before .before .loop .inv .2) (omega (arith, c .before .loop-test .taken)))
+part-pair-end-2 c =
+    let b2 = c .before .before in let b3 = b2 .before in let b9 = b3 .before .before .before .before .before .before in let args = b9 .args in
+    omega (
+      arith,
+      pair-bytes (args .w) (args .h) (args .n) (b2 .loop .i) (b3 .row-bytes .result) (b2 .loop .at) (b2 .loop .x) (args .part .now) (args .sup .now) (args .rings .now) (b9 .pre .0)
+          (b3 .row-bytes .ensures .0) (b3 .row-bytes .ensures .1) (b2 .loop .inv .1) (b2 .loop .inv .2) (omega (arith, c .before .loop-test .taken)),
+    )
 
--- src/stack.rt:36:13
 part-pair-end-3 : tie.Need-part-pair-end-3 Inv-loop μ-loop
-part-pair-end-3 c = omega (arith, pair-bytes (c .before .before .before .before .before .before .before .before .before .before .args .w) (c .before .before .before .before .before .before .before .before .before .before .args .h) (c .before .before .before .before .before .before .before .before .before .before .args .n) (c .before .before .before .loop .i) (c .before .before .before .before .row-bytes .result) (c .before .before .before .loop .at) (c .before .before .before .loop .x) (c .before .before .before .before .before .before .before .before .before .before .args .part .now) (c .before .before .before .before .before .before .before .before .before .before .args .sup .now) (c .before .before .before .before .before .before .before .before .before .before .args .rings .now) (c .before .before .before .before .before .before .before .before .before .before .pre .0) (c .before .before .before .before .row-bytes .ensures .0) (c .before .before .before .before .row-bytes .ensures .1) (c .before .before .before .loop .inv .1) (c .before .before .before .loop .inv .2) (omega (arith, c .before .before .loop-test .taken)))
+part-pair-end-3 c =
+    let b3 = c .before .before .before in let b4 = b3 .before in let b10 = b4 .before .before .before .before .before .before in let args = b10 .args in
+    omega (
+      arith,
+      pair-bytes (args .w) (args .h) (args .n) (b3 .loop .i) (b4 .row-bytes .result) (b3 .loop .at) (b3 .loop .x) (args .part .now) (args .sup .now) (args .rings .now) (b10 .pre .0)
+          (b4 .row-bytes .ensures .0) (b4 .row-bytes .ensures .1) (b3 .loop .inv .1) (b3 .loop .inv .2) (omega (arith, c .before .before .loop-test .taken)),
+    )
 
--- src/stack.rt:37:13
 part-pair-end-4 : tie.Need-part-pair-end-4 Inv-loop μ-loop
-part-pair-end-4 c = omega (arith, pair-bytes (c .before .before .before .before .before .before .before .before .before .before .before .args .w) (c .before .before .before .before .before .before .before .before .before .before .before .args .h) (c .before .before .before .before .before .before .before .before .before .before .before .args .n) (c .before .before .before .before .loop .i) (c .before .before .before .before .before .row-bytes .result) (c .before .before .before .before .loop .at) (c .before .before .before .before .loop .x) (c .before .before .before .before .before .before .before .before .before .before .before .args .part .now) (c .before .before .before .before .before .before .before .before .before .before .before .args .sup .now) (c .before .before .before .before .before .before .before .before .before .before .before .args .rings .now) (c .before .before .before .before .before .before .before .before .before .before .before .pre .0) (c .before .before .before .before .before .row-bytes .ensures .0) (c .before .before .before .before .before .row-bytes .ensures .1) (c .before .before .before .before .loop .inv .1) (c .before .before .before .before .loop .inv .2) (omega (arith, c .before .before .before .loop-test .taken)))
+part-pair-end-4 c =
+    let b3 = c .before .before .before in let b4 = b3 .before in let b5 = b4 .before in let b11 = b5 .before .before .before .before .before .before in let args = b11 .args in
+    omega (
+      arith,
+      pair-bytes (args .w) (args .h) (args .n) (b4 .loop .i) (b5 .row-bytes .result) (b4 .loop .at) (b4 .loop .x) (args .part .now) (args .sup .now) (args .rings .now) (b11 .pre .0)
+          (b5 .row-bytes .ensures .0) (b5 .row-bytes .ensures .1) (b4 .loop .inv .1) (b4 .loop .inv .2) (omega (arith, b3 .loop-test .taken)),
+    )
 
--- src/stack.rt:38:13
 mul-pair : tie.Need-mul-pair Inv-loop μ-loop
-mul-pair c = omega (arith, pair-fits (c .before .before .before .before .before .before .before .before .before .before .before .before .args .w) (c .before .before .before .before .before .before .before .before .before .before .before .before .args .h) (c .before .before .before .before .before .before .before .before .before .before .before .before .args .n) (c .before .before .before .before .before .loop .i) (c .before .before .before .before .before .before .row-bytes .result) (c .before .before .before .before .before .loop .at) (c .before .before .before .before .before .loop .x) (c .before .before .before .before .before .before .before .before .before .before .before .before .args .part .now) (c .before .before .before .before .before .before .before .before .before .before .before .before .args .sup .now) (c .before .before .before .before .before .before .before .before .before .before .before .before .args .rings .now) (c .before .before .before .before .before .before .before .before .before .before .before .before .pre .0) (c .before .before .before .before .before .before .row-bytes .ensures .0) (c .before .before .before .before .before .before .row-bytes .ensures .1) (c .before .before .before .before .before .loop .inv .1) (c .before .before .before .before .before .loop .inv .2) (omega (arith, c .before .before .before .before .loop-test .taken)))
+mul-pair c =
+    let b4 = c .before .before .before .before in let b5 = b4 .before in let b6 = b5 .before in let b12 = b6 .before .before .before .before .before .before in
+    let args = b12 .args in
+    omega (
+      arith,
+      pair-fits (args .w) (args .h) (args .n) (b5 .loop .i) (b6 .row-bytes .result) (b5 .loop .at) (b5 .loop .x) (args .part .now) (args .sup .now) (args .rings .now) (b12 .pre .0)
+          (b6 .row-bytes .ensures .0) (b6 .row-bytes .ensures .1) (b5 .loop .inv .1) (b5 .loop .inv .2) (omega (arith, b4 .loop-test .taken)),
+    )
 
--- src/stack.rt:38:13
 part-pair-end-5 : tie.Need-part-pair-end-5 Inv-loop μ-loop
-part-pair-end-5 c = omega (arith, pair-rings (c .before .before .before .before .before .before .before .before .before .before .before .before .args .w) (c .before .before .before .before .before .before .before .before .before .before .before .before .args .h) (c .before .before .before .before .before .before .before .before .before .before .before .before .args .n) (c .before .before .before .before .before .loop .i) (c .before .before .before .before .before .before .row-bytes .result) (c .before .before .before .before .before .loop .at) (c .before .before .before .before .before .loop .x) (c .before .before .before .before .before .before .before .before .before .before .before .before .args .part .now) (c .before .before .before .before .before .before .before .before .before .before .before .before .args .sup .now) (c .before .before .before .before .before .before .before .before .before .before .before .before .args .rings .now) (c .before .before .before .before .before .before .before .before .before .before .before .before .pre .0) (c .before .before .before .before .before .before .row-bytes .ensures .0) (c .before .before .before .before .before .before .row-bytes .ensures .1) (c .before .before .before .before .before .loop .inv .1) (c .before .before .before .before .before .loop .inv .2) (omega (arith, c .before .before .before .before .loop-test .taken)))
+part-pair-end-5 c =
+    let b4 = c .before .before .before .before in let b5 = b4 .before in let b6 = b5 .before in let b12 = b6 .before .before .before .before .before .before in
+    let args = b12 .args in
+    omega (
+      arith,
+      pair-rings (args .w) (args .h) (args .n) (b5 .loop .i) (b6 .row-bytes .result) (b5 .loop .at) (b5 .loop .x) (args .part .now) (args .sup .now) (args .rings .now) (b12 .pre .0)
+          (b6 .row-bytes .ensures .0) (b6 .row-bytes .ensures .1) (b5 .loop .inv .1) (b5 .loop .inv .2) (omega (arith, b4 .loop-test .taken)),
+    )
 
--- src/stack.rt:33:13
 pair-requires : tie.Need-pair-requires Inv-loop μ-loop
-pair-requires c κs = (((c .before .before .before .before .before .before .before .before .before .before .before .before .before .pre .0 .sized, c .before .before .before .before .before .before .before .before .before .before .before .before .before .pre .1 .1), (pair-clean (c .before .before .before .before .before .before .before .before .before .before .before .before .before .args .w) (c .before .before .before .before .before .before .before .before .before .before .before .before .before .args .h) (c .before .before .before .before .before .before .before .before .before .before .before .before .before .args .n) (c .before .before .before .before .before .before .loop .i) (c .before .before .before .before .before .before .before .row-bytes .result) (c .before .before .before .before .before .before .loop .at) (c .before .before .before .before .before .before .loop .x) (c .before .before .before .before .before .before .before .before .before .before .before .before .before .args .part .now) (c .before .before .before .before .before .before .before .before .before .before .before .before .before .args .sup .now) (c .before .before .before .before .before .before .before .before .before .before .before .before .before .args .rings .now) (c .before .before .before .before .before .before .before .before .before .before .before .before .before .pre .0) (c .before .before .before .before .before .before .before .row-bytes .ensures .0) (c .before .before .before .before .before .before .before .row-bytes .ensures .1) (c .before .before .before .before .before .before .loop .inv .1) (c .before .before .before .before .before .before .loop .inv .2) (omega (arith, c .before .before .before .before .before .loop-test .taken)), pair-count (c .before .before .before .before .before .before .before .before .before .before .before .before .before .args .w) (c .before .before .before .before .before .before .before .before .before .before .before .before .before .args .h) (c .before .before .before .before .before .before .before .before .before .before .before .before .before .args .n) (c .before .before .before .before .before .before .loop .i) (c .before .before .before .before .before .before .before .row-bytes .result) (c .before .before .before .before .before .before .loop .at) (c .before .before .before .before .before .before .loop .x) (c .before .before .before .before .before .before .before .before .before .before .before .before .before .args .part .now) (c .before .before .before .before .before .before .before .before .before .before .before .before .before .args .sup .now) (c .before .before .before .before .before .before .before .before .before .before .before .before .before .args .rings .now) (c .before .before .before .before .before .before .before .before .before .before .before .before .before .pre .0) (c .before .before .before .before .before .before .before .row-bytes .ensures .0) (c .before .before .before .before .before .before .before .row-bytes .ensures .1) (c .before .before .before .before .before .before .loop .inv .1) (c .before .before .before .before .before .before .loop .inv .2) (omega (arith, c .before .before .before .before .before .loop-test .taken)))), (pair-long (c .before .before .before .before .before .before .before .before .before .before .before .before .before .args .w) (c .before .before .before .before .before .before .before .before .before .before .before .before .before .args .h) (c .before .before .before .before .before .before .before .before .before .before .before .before .before .args .n) (c .before .before .before .before .before .before .loop .i) (c .before .before .before .before .before .before .before .row-bytes .result) (c .before .before .before .before .before .before .loop .at) (c .before .before .before .before .before .before .loop .x) (c .before .before .before .before .before .before .before .before .before .before .before .before .before .args .part .now) (c .before .before .before .before .before .before .before .before .before .before .before .before .before .args .sup .now) (c .before .before .before .before .before .before .before .before .before .before .before .before .before .args .rings .now) (c .before .before .before .before .before .before .before .before .before .before .before .before .before .pre .0) (c .before .before .before .before .before .before .before .row-bytes .ensures .0) (c .before .before .before .before .before .before .before .row-bytes .ensures .1) (c .before .before .before .before .before .before .loop .inv .1) (c .before .before .before .before .before .before .loop .inv .2) (omega (arith, c .before .before .before .before .before .loop-test .taken)), c .before .before .before .before .before .before .before .before .before .before .before .before .before .pre .1 .0))
+pair-requires c κs =
+    let b5 = c .before .before .before .before .before in let b6 = b5 .before in let b7 = b6 .before in let b13 = b7 .before .before .before .before .before .before in
+    let args = b13 .args in let pre = b13 .pre in (
+      (
+        (pre .0 .sized, pre .1 .1),
+        (
+          pair-clean (args .w) (args .h) (args .n) (b6 .loop .i) (b7 .row-bytes .result) (b6 .loop .at) (b6 .loop .x) (args .part .now) (args .sup .now) (args .rings .now)
+              (pre .0) (b7 .row-bytes .ensures .0) (b7 .row-bytes .ensures .1) (b6 .loop .inv .1) (b6 .loop .inv .2) (omega (arith, b5 .loop-test .taken)),
+          pair-count (args .w) (args .h) (args .n)
+              (b6 .loop .i) (b7 .row-bytes .result) (b6 .loop .at) (b6 .loop .x) (args .part .now) (args .sup .now) (args .rings .now) (pre .0) (b7 .row-bytes .ensures .0) (b7 .row-bytes .ensures .1)
+              (b6 .loop .inv .1) (b6 .loop .inv .2) (omega (arith, b5 .loop-test .taken)),
+        ),
+      ),
+      (
+        pair-long (args .w) (args .h) (args .n) (b6 .loop .i) (b7 .row-bytes .result) (b6 .loop .at) (b6 .loop .x) (args .part .now) (args .sup .now) (args .rings .now) (pre .0)
+            (b7 .row-bytes .ensures .0) (b7 .row-bytes .ensures .1) (b6 .loop .inv .1) (b6 .loop .inv .2) (omega (arith, b5 .loop-test .taken)),
+        pre .1 .0,
+      ),
+    )
 
--- src/stack.rt:46:13
-returns : tie.Need-returns Inv-loop μ-loop
-returns c = λ e. clash e refl
-
--- src/stack.rt:50:9
 add-i : tie.Need-add-i Inv-loop μ-loop
-add-i c = omega (arith, c .before .before .before .before .before .before .before .before .before .before .before .before .before .before .before .before .pre .0 .n-high, c .before .before .before .before .before .before .before .before .loop-test .taken)
+add-i c =
+    let b8 = c .before .before .before .before .before .before .before .before in let b16 = b8 .before .before .before .before .before .before .before .before in
+    omega (arith, b16 .pre .0 .n-high, b8 .loop-test .taken)
 
--- src/stack.rt:29:5
 loop-again : tie.Need-loop-again Inv-loop μ-loop
-loop-again c = (omega (arith, c .before .before .before .before .before .before .before .before .loop-test .taken), stretch-next _ _ _ (c .before .before .before .before .before .before .before .before .before .loop .inv .1), stretch-next _ _ _ (c .before .before .before .before .before .before .before .before .before .loop .inv .2), fine-more (c .before .before .before .before .before .before .before .before .before .before .before .before .before .before .before .before .args .w) (c .before .before .before .before .before .before .before .before .before .before .before .before .before .before .before .before .args .h) (c .before .before .before .before .before .before .before .before .before .before .before .before .before .before .before .before .args .n) (c .before .before .before .before .before .before .before .before .before .loop .i) (c .before .before .before .before .before .before .before .before .before .before .row-bytes .result) (c .before .before .before .before .before .before .before .before .before .loop .at) (c .before .before .before .before .before .before .before .before .before .loop .x) (c .before .before .before .before .before .before .before .before .before .before .before .before .before .before .before .before .args .part .now) (c .before .before .before .before .before .before .before .before .before .before .before .before .before .before .before .before .args .sup .now) (c .before .before .before .before .before .before .before .before .before .before .before .before .before .before .before .before .args .rings .now) (c .before .before .before .before .before .before .before .before .before .before .before .before .before .before .before .before .pre .0) (c .before .before .before .before .before .before .before .before .before .before .row-bytes .ensures .0) (c .before .before .before .before .before .before .before .before .before .before .row-bytes .ensures .1) (c .before .before .before .before .before .before .before .before .before .loop .inv .1) (c .before .before .before .before .before .before .before .before .before .loop .inv .2) (omega (arith, c .before .before .before .before .before .before .before .before .loop-test .taken)) (c .before .before .before .before .before .before .before .before .before .before .before .before .before .before .before .before .args .q .0) (c .before .before .pair .result) (c .before .before .pair .ensures .0) (c .before .before .pair .ensures .1) (sym (c .before .both .ensures) ∙ not-false _ (c .if1 .left)) (c .before .before .before .before .before .before .before .before .before .loop .inv .3))
+loop-again c =
+    let b2 = c .before .before in let b8 = b2 .before .before .before .before .before .before in let b9 = b8 .before in let b10 = b9 .before in
+    let b16 = b10 .before .before .before .before .before .before in let args = b16 .args in (
+      omega (arith, b8 .loop-test .taken),
+      stretch-next _ _ _ (b9 .loop .inv .1),
+      stretch-next _ _ _ (b9 .loop .inv .2),
+      fine-more (args .w) (args .h) (args .n) (b9 .loop .i)
+          (b10 .row-bytes .result) (b9 .loop .at) (b9 .loop .x) (args .part .now) (args .sup .now) (args .rings .now) (b16 .pre .0) (b10 .row-bytes .ensures .0) (b10 .row-bytes .ensures .1)
+          (b9 .loop .inv .1) (b9 .loop .inv .2) (omega (arith, b8 .loop-test .taken)) (args .q .0) (b2 .pair .result) (b2 .pair .ensures .0) (b2 .pair .ensures .1)
+          (sym (c .before .both .ensures) ∙ not-false _ (c .if1 .left)) (b9 .loop .inv .3),
+    )
 
--- src/stack.rt:9:1
 returns-2 : tie.Need-returns-2 Inv-loop μ-loop
-returns-2 c = λ e y l. c .before .loop .inv .3 y (omega (arith, stretch-end (c .before .loop .i) (c .before .before .before .before .before .before .before .before .args .n - 1) (c .before .before .before .before .before .before .before .before .args .h * c .before .before .before .before .before .before .before .before .args .w) (c .before .loop .x) (c .before .loop .inv .2) (c .before .loop .inv .0) (omega (arith, c .loop-test .left))))
+returns-2 c =
+    let b8 = c .before .before .before .before .before .before .before .before in
+    λ e y l. c .before .loop .inv .3 y (omega (
+      arith,
+      stretch-end (c .before .loop .i) (b8 .args .n - 1) (b8 .args .h * b8 .args .w) (c .before .loop .x) (c .before .loop .inv .2)
+          (c .before .loop .inv .0) (omega (arith, c .loop-test .left)),
+    ))
 
 pub pairs-spec : {M : Type 1} → statement M
 pairs-spec =
     tie.close
-    (tie.spec Inv-loop μ-loop row-bytes-requires mul-bytes mul-area loop-holds add-loop add-mid add-end add-next (λ c. search needs)
-    (λ c. search needs) part-pair-end (λ c. search needs) (λ c. search needs) part-pair-end-2 (λ c. search needs) (λ c. search needs)
-    part-pair-end-3 (λ c. search needs) (λ c. search needs) part-pair-end-4 mul-pair (λ c. search needs) (λ c. search needs) part-pair-end-5
-    pair-requires (λ c κs. search needs) returns add-i (λ c. search needs) loop-again returns-2)
+    (tie.spec Inv-loop μ-loop (λ c κs. c .before .before .before .before .before .pre .0 .sized .w-high) mul-bytes mul-area loop-holds add-loop add-mid
+    add-end add-next (λ c. search needs) (λ c. search needs) part-pair-end (λ c. search needs) (λ c. search needs) part-pair-end-2 (λ c. search needs)
+    (λ c. search needs) part-pair-end-3 (λ c. search needs) (λ c. search needs) part-pair-end-4 mul-pair (λ c. search needs) (λ c. search needs)
+    part-pair-end-5 pair-requires (λ c κs. search needs) (λ c. λ e. clash e refl) add-i (λ c. search needs) loop-again returns-2)

@@ -1,16 +1,16 @@
-use Rattle.quick.specs.Trust.{trust-small, trust-fits}
+use Rattle.quick.specs.NearByThemselves.{trust-small, trust-fits}
 use native.Mathlib.Omega.{arith}
 use borrow.Author.Needs.{needs}
 use Rattle.quick.proofs.stack.trusted.Statement.{statement}
 use Rattle.quick.proofs.stack.trusted.Tie as tie
 
--- src/stack.rt:67:5
 narrow-requires : tie.Need-narrow-requires
 narrow-requires c κs = omega (arith, trust-small (c .before .before .args .q .0) (c .root .result) (c .before .before .pre) (c .root .ensures))
 
--- src/stack.rt:63:1
 returns : tie.Need-returns
 returns c = trust-fits (c .before .before .before .args .q .0) (c .before .root .result) _ (c .before .root .ensures) (c .narrow .ensures)
 
 pub trusted-spec : {M : Type 1} → statement M
-trusted-spec = tie.close (tie.spec (λ c κs. search needs) narrow-requires returns)
+trusted-spec =
+    tie.close
+    (tie.spec (λ c κs. search needs) narrow-requires returns)

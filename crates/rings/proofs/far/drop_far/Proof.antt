@@ -1,11 +1,10 @@
-use mathlib.Core.Path.{_≡_, refl, sym, _∙_}
+use mathlib.Core.Path.{_≡_, refl, _∙_}
 use Prim.Native.Nat.{_+_, _-_, _≤_}
 use lib.ListN.{length}
 use Rattle.waves.specs.Rows.{Upto}
-use Rattle.rings.specs.Landing.{nearBits}
+use Rattle.rings.specs.NearRings.{nearBits}
 use Rattle.rings.specs.FarLaws.{drop-start, drop-more, drop-all, near-mid}
 use native.Mathlib.Omega.{arith}
-use borrow.Author.Needs.{needs}
 use Rattle.rings.proofs.far.drop_far.Statement.{statement}
 use Rattle.rings.proofs.far.drop_far.Tie as tie
 
@@ -19,10 +18,14 @@ shared-slice-read-y : tie.Need-shared-slice-read-y Inv-loop μ-loop
 shared-slice-read-y c = omega (arith, c .before .before .before .before .before .pre .1 .long)
 
 loop-holds : tie.Need-loop-holds Inv-loop μ-loop
-loop-holds c = (c .before .before .before .before .before .pre .1 .on 0 (omega arith) .1, refl, drop-start _ _ _ _ _ _ (c .before .before .before .before .before .pre .0) (c .before .before .before .before .before .pre .3))
+loop-holds c =
+    let b5 = c .before .before .before .before .before in
+    (b5 .pre .1 .on 0 (omega arith) .1, refl, drop-start _ _ _ _ _ _ (b5 .pre .0) (b5 .pre .3))
 
 drop-row-requires : tie.Need-drop-row-requires Inv-loop μ-loop
-drop-row-requires c κs = (c .before .before .before .before .before .before .before .before .pre .2 .long, c .before .before .loop .inv .1 ∙ c .before .before .before .before .before .before .before .before .pre .3 .ready .long, omega (arith, c .before .before .before .before .before .before .before .before .pre .0 .h-max), c .before .before .before .before .before .before .before .before .pre .4, c .before .before .before .before .before .before .before .before .pre .5)
+drop-row-requires c κs =
+    let b8 = c .before .before .before .before .before .before .before .before in let pre = b8 .pre in
+    (pre .2 .long, c .before .before .loop .inv .1 ∙ pre .3 .ready .long, omega (arith, pre .0 .h-max), pre .4, pre .5)
 
 add-y : tie.Need-add-y Inv-loop μ-loop
 add-y c = omega (arith, c .before .before .before .before .before .before .before .before .before .before .before .pre .0 .h-max)
@@ -31,28 +34,32 @@ mul-y : tie.Need-mul-y Inv-loop μ-loop
 mul-y c = omega (arith, c .before .before .before .before .before .before .before .before .before .before .before .pre .0 .h-max)
 
 shared-slice-read-y-2 : tie.Need-shared-slice-read-y-2 Inv-loop μ-loop
-shared-slice-read-y-2 c = omega (arith, c .before .before .before .before .before .before .before .before .before .before .before .before .pre .1 .long, c .before .before .before .before .before .before .before .before .before .before .before .before .pre .0 .h-max)
+shared-slice-read-y-2 c =
+    let b12 = c .before .before .before .before .before .before .before .before .before .before .before .before in
+    omega (arith, b12 .pre .1 .long, b12 .pre .0 .h-max)
 
 loop-less : tie.Need-loop-less Inv-loop μ-loop
-loop-less c = omega (arith, c .before .before .before .before .before .before .before .before .before .before .before .before .pre .1 .on (c .before .before .before .before .before .before .loop .y + 1) (omega arith))
+loop-less c =
+    let b6 = c .before .before .before .before .before .before in let b12 = b6 .before .before .before .before .before .before in
+    omega (arith, b12 .pre .1 .on (b6 .loop .y + 1) (omega arith))
 
 loop-again : tie.Need-loop-again Inv-loop μ-loop
 loop-again c =
-    let n = c .before .before .before .before .before .before .before .before .before .before .before .before .pre .1 .on (c .before .before .before .before .before .before .loop .y + 1) (omega arith) in (
+    let b3 = c .before .before .before in let b6 = b3 .before .before .before in let b12 = b6 .before .before .before .before .before .before in let pre = b12 .pre in
+    let n = pre .1 .on (b6 .loop .y + 1) (omega arith) in (
       n .1,
-      c .before .before .before .drop-row .kept .1 .0 ∙ c .before .before .before .before .before .before .loop .inv .1,
-      drop-more _ _ _ _ _ _ (c .before .before .before .before .before .before .before .before .before .before .before .before .pre .0) (c .before .before .before .before .before .before .before .before .before .before .before .before .pre .3) _ _ _ _ (omega arith) (omega arith) refl
-          (c .before .before .before .drop-row .ensures _ _ (c .before .before .before .before .before .before .before .before .before .before .before .before .pre .0) (c .before .before .before .before .before .before .before .before .before .before .before .before .pre .2 .framed) (near-mid _ _ _ _ _ _ _ (c .before .before .before .before .before .before .before .before .before .before .before .before .pre .3 .ready .framed) (c .before .before .before .before .before .before .loop .inv .2)) (omega arith)) (c .before .before .before .before .before .before .loop .inv .2),
+      b3 .drop-row .kept .1 .0 ∙ b6 .loop .inv .1,
+      drop-more _ _ _ _ _ _ (pre .0) (pre .3) _ _ _ _ (omega arith) (omega arith) refl
+          (b3 .drop-row .ensures _ _ (pre .0) (pre .2 .framed) (near-mid _ _ _ _ _ _ _ (pre .3 .ready .framed) (b6 .loop .inv .2)) (omega arith)) (b6 .loop .inv .2),
     )
 
-same-length : tie.Need-same-length Inv-loop μ-loop
-same-length c = c .before .loop .inv .1
-
 returns : tie.Need-returns Inv-loop μ-loop
-returns c = drop-all _ _ _ _ _ _ (c .before .before .before .before .before .before .before .pre .0) (c .before .before .before .before .before .before .before .pre .3) _ _ (omega arith) (c .before .loop .inv .2)
+returns c =
+    let b7 = c .before .before .before .before .before .before .before in
+    drop-all _ _ _ _ _ _ (b7 .pre .0) (b7 .pre .3) _ _ (omega arith) (c .before .loop .inv .2)
 
 pub drop-far-spec : {M : Type 1} → statement M
 drop-far-spec =
     tie.close
     (tie.spec Inv-loop μ-loop shared-slice-read-y loop-holds drop-row-requires add-y mul-y shared-slice-read-y-2 loop-less loop-again
-    same-length returns)
+    (λ c. c .before .loop .inv .1) returns)

@@ -17,16 +17,16 @@ Inv-loop f at out₀ i₀ j₀ out i j = (out ≡ jobs.get16s f at i ++ drop i o
 abbrev μ-loop : tie.MeasureT-loop
 μ-loop f at out₀ i₀ j₀ out i j = length out₀ - i
 
-loop-holds : tie.Need-loop-holds Inv-loop μ-loop
-loop-holds c = (refl, omega arith, omega arith, refl)
-
 loop-again : tie.Need-loop-again Inv-loop μ-loop
 loop-again c =
-    let h : c .before .before .loop .i < length (now (c .before .before .before .before .before .args .out)) = omega arith in
-    (ap₂ (λ (l : List ℕ) (v : ℕ). set l (c .before .before .loop .i) v) (c .before .before .loop .inv .0) (c .get16 .ensures .0 ∙ ap (be16 (now (c .before .before .before .before .before .args .f))) (c .before .before .loop .inv .1)) ∙ copy-more _ _ _ _ h, omega arith, omega arith, simp length-set (c .before .before .loop .inv .3))
-
-same-length : tie.Need-same-length Inv-loop μ-loop
-same-length c = c .before .loop .inv .3
+    let b2 = c .before .before in let b5 = b2 .before .before .before in
+    let h : b2 .loop .i < length (now (b5 .args .out)) = omega arith in (
+      ap₂ (λ (l : List ℕ) (v : ℕ). set l (b2 .loop .i) v) (b2 .loop .inv .0) (c .get16 .ensures .0 ∙ ap (be16 (now (b5 .args .f))) (b2 .loop .inv .1))
+          ∙ copy-more _ _ _ _ h,
+      omega arith,
+      omega arith,
+      simp length-set (b2 .loop .inv .3),
+    )
 
 returns : tie.Need-returns Inv-loop μ-loop
 returns c =
@@ -36,5 +36,5 @@ returns c =
 pub get16s-spec : {M : Type 1} → statement M
 get16s-spec =
     tie.close
-    (tie.spec Inv-loop μ-loop loop-holds (λ c κs. omega arith) (λ c. omega arith) (λ c. omega arith) (λ c. omega arith) (λ c. omega arith)
-    (λ c. omega arith) loop-again same-length returns)
+    (tie.spec Inv-loop μ-loop (λ c. (refl, omega arith, omega arith, refl)) (λ c κs. omega arith) (λ c. omega arith) (λ c. omega arith) (λ c. omega arith)
+    (λ c. omega arith) (λ c. omega arith) loop-again (λ c. c .before .loop .inv .3) returns)

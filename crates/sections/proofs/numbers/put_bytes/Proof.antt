@@ -14,20 +14,22 @@ Inv-loop d₀ src i₀ d i = (d ≡ take i src ++ drop i d₀) × (i ≤ length 
 abbrev μ-loop : tie.MeasureT-loop
 μ-loop d₀ src i₀ d i = length src - i
 
-loop-holds : tie.Need-loop-holds Inv-loop μ-loop
-loop-holds c = (refl, omega arith, refl)
-
 loop-again : tie.Need-loop-again Inv-loop μ-loop
-loop-again c = (ap (λ (l : List ℕ). set l (c .before .before .loop .i) (getD (now (c .before .before .before .args .src)) (c .before .before .loop .i) 0)) (c .before .before .loop .inv .0) ∙ bytes-more (now (c .before .before .before .args .d)) (now (c .before .before .before .args .src)) (c .before .before .loop .i) (c .before .loop-test .taken) (c .before .before .before .pre), omega arith, simp length-set (c .before .before .loop .inv .2))
-
-same-length : tie.Need-same-length Inv-loop μ-loop
-same-length c = c .before .loop .inv .2
+loop-again c =
+    let b2 = c .before .before in let b3 = b2 .before in (
+      ap (λ (l : List ℕ). set l (b2 .loop .i) (getD (now (b3 .args .src)) (b2 .loop .i) 0)) (b2 .loop .inv .0)
+          ∙ bytes-more (now (b3 .args .d)) (now (b3 .args .src)) (b2 .loop .i) (c .before .loop-test .taken) (b3 .pre),
+      omega arith,
+      simp length-set (b2 .loop .inv .2),
+    )
 
 returns : tie.Need-returns Inv-loop μ-loop
-returns c = c .before .loop .inv .0 ∙ bytes-all (now (c .before .before .args .d)) (now (c .before .before .args .src)) (c .before .loop .i) (omega arith) (c .before .before .pre)
+returns c =
+    let b2 = c .before .before in
+    c .before .loop .inv .0 ∙ bytes-all (now (b2 .args .d)) (now (b2 .args .src)) (c .before .loop .i) (omega arith) (b2 .pre)
 
 pub put-bytes-spec : {M : Type 1} → statement M
 put-bytes-spec =
     tie.close
-    (tie.spec Inv-loop μ-loop loop-holds (λ c. omega arith) (λ c. omega arith) (λ c. omega arith) (λ c. omega arith) loop-again same-length
-    returns)
+    (tie.spec Inv-loop μ-loop (λ c. (refl, omega arith, refl)) (λ c. omega arith) (λ c. omega arith) (λ c. omega arith) (λ c. omega arith) loop-again
+    (λ c. c .before .loop .inv .2) returns)

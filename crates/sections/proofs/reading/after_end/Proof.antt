@@ -10,4 +10,6 @@ returns-2 : tie.Need-returns-2
 returns-2 c = simp (le-ltb _ _ (rw (c .before .job-end .ensures .0) at (c .if1 .left)))
 
 pub after-end-spec : {M : Type 1} → statement M
-after-end-spec = tie.close (tie.spec (λ c κs. search needs) returns returns-2)
+after-end-spec =
+    tie.close
+    (tie.spec (λ c κs. search needs) returns returns-2)

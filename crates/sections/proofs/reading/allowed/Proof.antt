@@ -2,11 +2,7 @@ use borrow.Author.Tests.{eq-eqb, ne-eqb}
 use Rattle.sections.proofs.reading.allowed.Statement.{statement}
 use Rattle.sections.proofs.reading.allowed.Tie as tie
 
-returns : tie.Need-returns
-returns c = simp (eq-eqb _ _ (c .if1 .taken))
-
-returns-2 : tie.Need-returns-2
-returns-2 c = simp (ne-eqb _ _ (c .if1 .left))
-
 pub allowed-spec : {M : Type 1} → statement M
-allowed-spec = tie.close (tie.spec returns returns-2)
+allowed-spec =
+    tie.close
+    (tie.spec (λ c. simp (eq-eqb _ _ (c .if1 .taken))) (λ c. simp (ne-eqb _ _ (c .if1 .left))))

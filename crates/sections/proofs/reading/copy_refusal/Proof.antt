@@ -17,13 +17,23 @@ stored-in-requires : tie.Need-stored-in-requires
 stored-in-requires c κs = let b = behind _ _ (sym (c .before .before .read-refusal .ensures) ∙ c .before .if1 .left) (c .settings-in .ensures) in (b .fine, b .count)
 
 ring-count-requires : tie.Need-ring-count-requires
-ring-count-requires c κs = behind _ _ (sym (c .before .before .before .read-refusal .ensures) ∙ c .before .before .if1 .left) (c .before .settings-in .ensures) .fine
+ring-count-requires c κs =
+    let b3 = c .before .before .before in
+    behind _ _ (sym (b3 .read-refusal .ensures) ∙ c .before .before .if1 .left) (c .before .settings-in .ensures) .fine
 
 returns-2 : tie.Need-returns-2
-returns-2 c = goes-on (c .before .before .before .before .before .read-refusal .ensures) (c .before .before .before .before .if1 .left) (rings-wrong (now (c .before .before .before .before .before .before .before .args .f)) _ _ _ (c .before .before .before .before .before .before .before .args .room) (c .before .before .before .settings-in .ensures) (c .before .before .stored-in .ensures) (c .before .ring-count .ensures .0) (c .if2 .taken)) ∙ sym (copy-parts _ _)
+returns-2 c =
+    let b3 = c .before .before .before in let b4 = b3 .before in let b5 = b4 .before in let b7 = b5 .before .before in
+    goes-on (b5 .read-refusal .ensures) (b4 .if1 .left)
+    (rings-wrong (now (b7 .args .f)) _ _ _ (b7 .args .room) (b3 .settings-in .ensures) (c .before .before .stored-in .ensures) (c .before .ring-count .ensures .0) (c .if2 .taken))
+    ∙ sym (copy-parts _ _)
 
 returns-3 : tie.Need-returns-3
-returns-3 c = goes-on (c .before .before .before .before .before .read-refusal .ensures) (c .before .before .before .before .if1 .left) (rings-right (now (c .before .before .before .before .before .before .before .args .f)) _ _ _ (c .before .before .before .before .before .before .before .args .room) (c .before .before .before .settings-in .ensures) (c .before .before .stored-in .ensures) (c .before .ring-count .ensures .0) (c .if2 .left)) ∙ sym (copy-parts _ _)
+returns-3 c =
+    let b3 = c .before .before .before in let b4 = b3 .before in let b5 = b4 .before in let b7 = b5 .before .before in
+    goes-on (b5 .read-refusal .ensures) (b4 .if1 .left)
+    (rings-right (now (b7 .args .f)) _ _ _ (b7 .args .room) (b3 .settings-in .ensures) (c .before .before .stored-in .ensures) (c .before .ring-count .ensures .0) (c .if2 .left))
+    ∙ sym (copy-parts _ _)
 
 pub copy-refusal-spec : {M : Type 1} → statement M
 copy-refusal-spec =

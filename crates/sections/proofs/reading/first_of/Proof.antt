@@ -4,8 +4,7 @@ use borrow.Author.Needs.{needs}
 use Rattle.sections.proofs.reading.first_of.Statement.{statement}
 use Rattle.sections.proofs.reading.first_of.Tie as tie
 
-returns-2 : tie.Need-returns-2
-returns-2 c = stops _ refl (c .if1 .left)
-
 pub first-of-spec : {M : Type 1} → statement M
-first-of-spec = tie.close (tie.spec (λ c. search needs) returns-2)
+first-of-spec =
+    tie.close
+    (tie.spec (λ c. search needs) (λ c. stops _ refl (c .if1 .left)))

@@ -12,7 +12,9 @@ returns c = stops _ (c .before .rings-section .ensures) (c .if1 .taken)
 
 returns-2 : tie.Need-returns-2
 unfolding ringsRefusal
-returns-2 c = goes-on (c .before .before .before .before .rings-section .ensures) (c .before .before .before .if1 .left) (c .first-of .ensures ∙ ap₂ orElse (c .before .before .after-end .ensures) (c .before .padding .ensures))
+returns-2 c =
+    let b3 = c .before .before .before in let b4 = b3 .before in
+    goes-on (b4 .rings-section .ensures) (b3 .if1 .left) (c .first-of .ensures ∙ ap₂ orElse (c .before .before .after-end .ensures) (c .before .padding .ensures))
 
 pub from-rings-spec : {M : Type 1} → statement M
 from-rings-spec =

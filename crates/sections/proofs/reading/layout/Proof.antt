@@ -4,9 +4,6 @@ use borrow.Author.Needs.{needs}
 use Rattle.sections.proofs.reading.layout.Statement.{statement}
 use Rattle.sections.proofs.reading.layout.Tie as tie
 
-settings-in-requires : tie.Need-settings-in-requires
-settings-in-requires c κs = head-whole _ (c .before .pre)
-
 stored-in-requires : tie.Need-stored-in-requires
 stored-in-requires c κs = let b = behind _ _ (c .before .before .pre) (c .settings-in .ensures) in (b .fine, b .count)
 
@@ -14,14 +11,18 @@ part-end-requires : tie.Need-part-end-requires
 part-end-requires c κs = behind _ _ (c .before .before .before .pre) (c .before .settings-in .ensures) .fine
 
 support-end-requires : tie.Need-support-end-requires
-support-end-requires c κs = let v = stored-accepted _ _ _ (c .before .stored-in .ensures) (c .before .before .before .before .pre) (c .before .before .settings-in .ensures) in (v .fine, v .most)
+support-end-requires c κs =
+    let b4 = c .before .before .before .before in
+    let v = stored-accepted _ _ _ (c .before .stored-in .ensures) (b4 .pre) (c .before .before .settings-in .ensures) in (v .fine, v .most)
 
 returns : tie.Need-returns
 unfolding layoutOf storedIn headEnd
-returns c = rw (c .before .part-end .ensures .0, c .support-end .ensures .0, c .before .before .stored-in .ensures, c .before .before .before .settings-in .ensures)
+returns c =
+    let b3 = c .before .before .before in
+    rw (c .before .part-end .ensures .0, c .support-end .ensures .0, c .before .before .stored-in .ensures, b3 .settings-in .ensures)
 
 pub layout-spec : {M : Type 1} → statement M
 layout-spec =
     tie.close
-    (tie.spec settings-in-requires stored-in-requires part-end-requires (λ c. search needs) support-end-requires (λ c. search needs)
+    (tie.spec (λ c κs. head-whole _ (c .before .pre)) stored-in-requires part-end-requires (λ c. search needs) support-end-requires (λ c. search needs)
     (λ c. search needs) returns)

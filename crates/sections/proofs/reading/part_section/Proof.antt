@@ -15,8 +15,12 @@ row-bytes-requires c κs = ranged (c .before .before .args .s) (c .before .befor
 
 returns : tie.Need-returns
 unfolding headEnd
-returns c = c .section .ensures ∙ ap₂ (λ (a u : ℕ). refusal (sectionCases (now (c .before .before .before .before .args .f)) 14 (oneOf a a) u)) (c .before .before .rows-of .ensures .0) (c .before .row-bytes .ensures .0) ∙ only (now (c .before .before .before .before .args .f)) 14 _ _
+returns c =
+    let b4 = c .before .before .before .before in
+    c .section .ensures ∙ ap₂ (λ (a u : ℕ). refusal (sectionCases (now (b4 .args .f)) 14 (oneOf a a) u)) (c .before .before .rows-of .ensures .0) (c .before .row-bytes .ensures .0)
+    ∙ only (now (b4 .args .f)) 14 _ _
 
 pub part-section-spec : {M : Type 1} → statement M
 part-section-spec =
-    tie.close (tie.spec (λ c κs. search needs) row-bytes-requires (λ c κs. search needs) returns)
+    tie.close
+    (tie.spec (λ c κs. search needs) row-bytes-requires (λ c κs. search needs) returns)

@@ -4,8 +4,7 @@ use borrow.Author.Needs.{needs}
 use Rattle.sections.proofs.reading.settings_section.Statement.{statement}
 use Rattle.sections.proofs.reading.settings_section.Tie as tie
 
-returns : tie.Need-returns
-returns c = c .section .ensures ∙ only _ 0 5 2
-
 pub settings-section-spec : {M : Type 1} → statement M
-settings-section-spec = tie.close (tie.spec (λ c κs. search needs) returns)
+settings-section-spec =
+    tie.close
+    (tie.spec (λ c κs. search needs) (λ c. c .section .ensures ∙ only _ 0 5 2))

@@ -15,10 +15,11 @@ row-bytes-requires c κs = ranged (c .before .before .before .args .s) (c .befor
 
 returns : tie.Need-returns
 returns c =
+    let b3 = c .before .before .before in let b5 = b3 .before .before in let args = b5 .args in
     c .section .ensures
-    ∙ ap (λ (at : ℕ). refusal (sectionCases (now (c .before .before .before .before .before .args .f)) at (oneOf 0 (c .before .before .rows-of .result)) (c .before .row-bytes .result))) (c .before .before .before .part-end .ensures .0)
-    ∙ ap₂ (λ (a u : ℕ). refusal (sectionCases (now (c .before .before .before .before .before .args .f)) (partEnd (c .before .before .before .before .before .args .s)) (oneOf 0 a) u)) (c .before .before .rows-of .ensures .0) (c .before .row-bytes .ensures .0)
-    ∙ none-or-all (now (c .before .before .before .before .before .args .f)) (c .before .before .before .before .before .args .s) _ _
+    ∙ ap (λ (at : ℕ). refusal (sectionCases (now (args .f)) at (oneOf 0 (c .before .before .rows-of .result)) (c .before .row-bytes .result))) (b3 .part-end .ensures .0)
+    ∙ ap₂ (λ (a u : ℕ). refusal (sectionCases (now (args .f)) (partEnd (args .s)) (oneOf 0 a) u)) (c .before .before .rows-of .ensures .0) (c .before .row-bytes .ensures .0)
+    ∙ none-or-all (now (args .f)) (args .s) _ _
 
 pub support-section-spec : {M : Type 1} → statement M
 support-section-spec =

@@ -9,4 +9,6 @@ unfolding partEnd headEnd
 returns c = (omega arith, omega arith)
 
 pub part-end-spec : {M : Type 1} → statement M
-part-end-spec = tie.close (tie.spec (λ c. search needs) (λ c κs. search needs) (λ c. search needs) returns)
+part-end-spec =
+    tie.close
+    (tie.spec (λ c. search needs) (λ c κs. search needs) (λ c. search needs) returns)

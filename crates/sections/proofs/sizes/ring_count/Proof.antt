@@ -14,4 +14,6 @@ unfolding ringCount
 returns-2 c = (simp (ne-eqb _ _ (c .before .if1 .left)) (c .rings-in .ensures .0), c .rings-in .ensures .1)
 
 pub ring-count-spec : {M : Type 1} → statement M
-ring-count-spec = tie.close (tie.spec returns (λ c κs. search needs) returns-2)
+ring-count-spec =
+    tie.close
+    (tie.spec returns (λ c κs. search needs) returns-2)

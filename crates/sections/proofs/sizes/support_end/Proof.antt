@@ -8,9 +8,6 @@ use borrow.Author.Needs.{needs}
 use Rattle.sections.proofs.sizes.support_end.Statement.{statement}
 use Rattle.sections.proofs.sizes.support_end.Tie as tie
 
-row-bytes-requires : tie.Need-row-bytes-requires
-row-bytes-requires c κs = ranged (c .before .args .s) (c .before .pre .0) .w-high
-
 mul-result : tie.Need-mul-result
 mul-result c = omega (arith, mul-le-mul (c .before .before .pre .1) (c .row-bytes .ensures .1))
 
@@ -19,9 +16,13 @@ add-result-2 c = omega (arith, mul-le-mul (c .before .before .pre .1) (c .row-by
 
 returns : tie.Need-returns
 unfolding supportEnd
-returns c = (ap₂ (λ (a b : ℕ). a + 4 + c .before .before .args .c * b) (c .before .part-end .ensures .0) (c .row-bytes .ensures .0), omega (arith, mul-le-mul (c .before .before .pre .1) (c .row-bytes .ensures .1)))
+returns c = (
+  ap₂ (λ (a b : ℕ). a + 4 + c .before .before .args .c * b) (c .before .part-end .ensures .0) (c .row-bytes .ensures .0),
+  omega
+      (arith, mul-le-mul (c .before .before .pre .1) (c .row-bytes .ensures .1)),
+)
 
 pub support-end-spec : {M : Type 1} → statement M
 support-end-spec =
     tie.close
-    (tie.spec (λ c κs. search needs) (λ c. search needs) row-bytes-requires mul-result add-result-2 returns)
+    (tie.spec (λ c κs. search needs) (λ c. search needs) (λ c κs. ranged (c .before .args .s) (c .before .pre .0) .w-high) mul-result add-result-2 returns)

@@ -17,4 +17,6 @@ returns-2 : tie.Need-returns-2
 returns-2 c = c .before .pre .0 ∙ ap (λ (x : ℕ). x * c .before .args .w) (omega arith)
 
 pub row-down-spec : {M : Type 1} → statement M
-row-down-spec = tie.close (tie.spec (λ c. search needs) add-result returns returns-2)
+row-down-spec =
+    tie.close
+    (tie.spec (λ c. search needs) add-result returns returns-2)

@@ -15,4 +15,6 @@ returns-2 : tie.Need-returns-2
 returns-2 c = c .before .pre ∙ ap (λ (x : ℕ). x * c .before .args .w) (omega arith)
 
 pub row-up-spec : {M : Type 1} → statement M
-row-up-spec = tie.close (tie.spec sub-result returns returns-2)
+row-up-spec =
+    tie.close
+    (tie.spec sub-result returns returns-2)

@@ -20,4 +20,6 @@ returns-4 : tie.Need-returns-4
 returns-4 c e = omega (arith, leb-true (c .before .before .before .before .before .args .at) (c .before .before .before .before .before .args .n - 256) e)
 
 pub many-spec : {M : Type 1} → statement M
-many-spec = tie.close (tie.spec (λ c κs. search needs) returns (λ c κs. search needs) returns-2 returns-3 returns-4)
+many-spec =
+    tie.close
+    (tie.spec (λ c κs. search needs) returns (λ c κs. search needs) returns-2 returns-3 returns-4)

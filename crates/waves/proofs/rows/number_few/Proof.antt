@@ -6,33 +6,36 @@ use borrow.Author.Needs.{needs}
 use Rattle.waves.proofs.rows.number_few.Statement.{statement}
 use Rattle.waves.proofs.rows.number_few.Tie as tie
 
--- src/rows.rt:17:5
 number-requires : tie.Need-number-requires
 unfolding column
 number-requires c κs = λ k l on. let z = word-room _ _ _ _ _ _ _ 0 _ (refl, omega arith) (c .before .before .pre .0) refl k l on in omega arith
 
--- src/rows.rt:18:5
 number-requires-2 : tie.Need-number-requires-2
 unfolding column
-number-requires-2 c κs = word-room _ _ _ _ _ _ _ 1 _ (refl, omega arith) (c .before .before .before .before .before .before .pre .0) (c .before .before .before .number .kept .0)
+number-requires-2 c κs =
+    let b3 = c .before .before .before in let b6 = b3 .before .before .before in
+    word-room _ _ _ _ _ _ _ 1 _ (refl, omega arith) (b6 .pre .0) (b3 .number .kept .0)
 
--- src/rows.rt:19:5
 number-requires-3 : tie.Need-number-requires-3
 unfolding column
-number-requires-3 c κs = word-room _ _ _ _ _ _ _ 2 _ (refl, omega arith) (c .before .before .before .before .before .before .before .before .before .before .pre .0) (c .before .before .before .number2 .kept .0 ∙ c .before .before .before .before .before .before .before .number .kept .0)
+number-requires-3 c κs =
+    let b3 = c .before .before .before in let b7 = b3 .before .before .before .before in let b10 = b7 .before .before .before in
+    word-room _ _ _ _ _ _ _ 2 _ (refl, omega arith) (b10 .pre .0) (b3 .number2 .kept .0 ∙ b7 .number .kept .0)
 
--- src/rows.rt:20:5
 number-requires-4 : tie.Need-number-requires-4
 unfolding column
-number-requires-4 c κs = word-room _ _ _ _ _ _ _ 3 _ (refl, omega arith) (c .before .before .before .before .before .before .before .before .before .before .before .before .before .before .pre .0) (c .before .before .before .number3 .kept .0 ∙ c .before .before .before .before .before .before .before .number2 .kept .0 ∙ c .before .before .before .before .before .before .before .before .before .before .before .number .kept .0)
+number-requires-4 c κs =
+    let b3 = c .before .before .before in let b7 = b3 .before .before .before .before in let b11 = b7 .before .before .before .before in let b14 = b11 .before .before .before in
+    word-room _ _ _ _ _ _ _ 3 _ (refl, omega arith) (b14 .pre .0) (b3 .number3 .kept .0 ∙ b7 .number2 .kept .0 ∙ b11 .number .kept .0)
 
--- src/rows.rt:13:1
 returns : tie.Need-returns
 unfolding column
-returns c = four-numbers _ _ _ _ _ _ _ _ _ _ _ (c .before .before .before .before .before .before .before .before .before .before .before .before .before .before .number .ensures) (c .before .before .before .before .before .before .before .before .before .before .number2 .ensures) (c .before .before .before .before .before .before .number3 .ensures) (c .before .before .number4 .ensures)
+returns c =
+    let b6 = c .before .before .before .before .before .before in let b10 = b6 .before .before .before .before in let b14 = b10 .before .before .before .before in
+    four-numbers _ _ _ _ _ _ _ _ _ _ _ (b14 .number .ensures) (b10 .number2 .ensures) (b6 .number3 .ensures) (c .before .before .number4 .ensures)
 
 pub number-few-spec : {M : Type 1} → statement M
 number-few-spec =
     tie.close
-    (tie.spec number-requires (λ c. search needs) number-requires-2 (λ c. search needs) number-requires-3 (λ c. search needs)
-    number-requires-4 (λ c. search needs) returns)
+    (tie.spec number-requires (λ c. search needs) number-requires-2 (λ c. search needs) number-requires-3 (λ c. search needs) number-requires-4
+    (λ c. search needs) returns)

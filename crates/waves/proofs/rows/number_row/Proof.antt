@@ -1,4 +1,3 @@
-use native.Mathlib.Omega.{arith}
 use borrow.Author.Needs.{needs}
 use Rattle.waves.proofs.rows.number_row.Statement.{statement}
 use Rattle.waves.proofs.rows.number_row.Tie as tie
@@ -9,5 +8,5 @@ number-many-requires c κs = (c .before .before .many .ensures (c .before .if1 .
 pub number-row-spec : {M : Type 1} → statement M
 number-row-spec =
     tie.close
-    (tie.spec (λ c κs. search needs) number-many-requires (λ c. search needs) (λ c. search needs) (λ c κs. search needs)
-    (λ c. search needs) (λ c. search needs))
+    (tie.spec (λ c κs. search needs) number-many-requires (λ c. search needs) (λ c. search needs) (λ c κs. search needs) (λ c. search needs)
+    (λ c. search needs))

@@ -1,9 +1,7 @@
-use mathlib.Core.Path.{_≡_, sym, ap, _∙_}
-use Prim.Native.Nat.{ℕ, _+_, _-_, _*_, _<_, _≤_, _^_}
+use mathlib.Core.Path.{_≡_}
+use Prim.Native.Nat.{_-_, _*_, _≤_}
 use native.Mathlib.Omega.{arith}
-use native.Mathlib.Nat.{mod-lt}
 use borrow.Author.Needs.{needs}
-use lib.Bits.{and-mask, mask-lt}
 use Rattle.words.specs.Words.{Digits, rowPart}
 use Rattle.words.specs.WordLaws.{more-byte, more-none, part-here, part-none}
 use Rattle.words.specs.Digits.{digits-none}
@@ -22,20 +20,29 @@ Inv-loop2 s at n v₀ k₀ v k = (n ≤ k) × (k ≤ 8) × Digits (k * 8) v 0 (r
 abbrev μ-loop2 : tie.MeasureT-loop2
 μ-loop2 s at n v₀ k₀ v k = 8 - k
 
-loop-holds : tie.Need-loop-holds Inv-loop μ-loop Inv-loop2 μ-loop2
-loop-holds c = (omega arith, digits-none _ _)
-
 loop-again : tie.Need-loop-again Inv-loop μ-loop Inv-loop2 μ-loop2
-loop-again c = (omega arith, more-byte (c .before .before .before .loop .k) (c .before .before .before .loop .v) (c .long .result) 0 (rowPart (c .before .before .before .before .before .args .s .now) (c .before .before .before .before .before .args .at) (c .before .before .before .before .before .args .n)) (omega arith) (c .before .before .before .loop .inv .1) (part-here (c .before .before .before .before .before .args .s .now) (c .before .before .before .before .before .args .at) (c .before .before .before .before .before .args .n) (c .before .before .before .loop .k) (c .long .result) (omega arith) (c .long .ensures)))
-
-loop2-holds : tie.Need-loop2-holds Inv-loop μ-loop Inv-loop2 μ-loop2
-loop2-holds c = (omega arith, omega arith, c .before .loop .inv .1)
+loop-again c =
+    let b3 = c .before .before .before in let b5 = b3 .before .before in let args = b5 .args in (
+      omega arith,
+      more-byte (b3 .loop .k) (b3 .loop .v) (c .long .result) 0 (rowPart (args .s .now) (args .at) (args .n)) (omega arith) (b3 .loop .inv .1)
+          (part-here (args .s .now) (args .at) (args .n) (b3 .loop .k) (c .long .result) (omega arith) (c .long .ensures)),
+    )
 
 loop2-again : tie.Need-loop2-again Inv-loop μ-loop Inv-loop2 μ-loop2
-loop2-again c = (omega arith, omega arith, more-none (c .before .loop2 .k) (c .before .loop2 .v) 0 (rowPart (c .before .before .before .before .before .args .s .now) (c .before .before .before .before .before .args .at) (c .before .before .before .before .before .args .n)) (omega arith) (c .before .loop2 .inv .2) (part-none (c .before .before .before .before .before .args .s .now) (c .before .before .before .before .before .args .at) (c .before .before .before .before .before .args .n) (c .before .loop2 .k) (c .before .loop2 .inv .0)))
+loop2-again c =
+    let b5 = c .before .before .before .before .before in let args = b5 .args in (
+      omega arith,
+      omega arith,
+      more-none (c .before .loop2 .k) (c .before .loop2 .v) 0 (rowPart (args .s .now) (args .at) (args .n)) (omega arith) (c .before .loop2 .inv .2)
+          (part-none (args .s .now) (args .at) (args .n) (c .before .loop2 .k) (c .before .loop2 .inv .0)),
+    )
 
 returns : tie.Need-returns Inv-loop μ-loop Inv-loop2 μ-loop2
 returns c = let e : c .before .loop2 .k ≡ 8 = omega arith in rw e at (c .before .loop2 .inv .2)
 
 pub part-spec : {M : Type 1} → statement M
-part-spec = tie.close (tie.spec Inv-loop μ-loop Inv-loop2 μ-loop2 loop-holds (λ c. search needs) (λ c. search needs) (λ c κs. search needs) (λ c. search needs) (λ c. omega arith) loop-again loop2-holds (λ c. search needs) (λ c. omega arith) loop2-again returns)
+part-spec =
+    tie.close
+    (tie.spec Inv-loop μ-loop Inv-loop2 μ-loop2 (λ c. (omega arith, digits-none _ _)) (λ c. search needs) (λ c. search needs) (λ c κs. search needs)
+    (λ c. search needs) (λ c. omega arith) loop-again (λ c. (omega arith, omega arith, c .before .loop .inv .1)) (λ c. search needs) (λ c. omega arith)
+    loop2-again returns)

@@ -13,20 +13,16 @@ Inv-loop s at v₀ k₀ v k = (k ≤ 8) × Leading (k * 8) (64 - k * 8) v (at * 
 abbrev μ-loop : tie.MeasureT-loop
 μ-loop s at v₀ k₀ v k = 8 - k
 
--- src/bytes.rt:20:5
-loop-holds : tie.Need-loop-holds Inv-loop μ-loop
-loop-holds c = (omega arith, leading-none _ _)
-
--- src/bytes.rt:20:5
 loop-again : tie.Need-loop-again Inv-loop μ-loop
-loop-again c = (omega arith, leading-more (c .before .before .before .before .before .args .s .now) (c .before .before .before .before .before .args .at) (c .before .before .before .loop .k) (c .before .before .before .loop .v) (c .long .result) (omega arith) (c .long .ensures) (c .before .before .before .loop .inv .1))
+loop-again c =
+    let b3 = c .before .before .before in let b5 = b3 .before .before in
+    (omega arith, leading-more (b5 .args .s .now) (b5 .args .at) (b3 .loop .k) (b3 .loop .v) (c .long .result) (omega arith) (c .long .ensures) (b3 .loop .inv .1))
 
--- src/bytes.rt:14:1
 returns : tie.Need-returns Inv-loop μ-loop
 returns c = let e : c .before .loop .k ≡ 8 = omega arith in leading-all _ _ _ (rw e at (c .before .loop .inv .1))
 
 pub word-spec : {M : Type 1} → statement M
 word-spec =
     tie.close
-    (tie.spec Inv-loop μ-loop loop-holds (λ c. search needs) (λ c. search needs) (λ c κs. search needs) (λ c. search needs)
+    (tie.spec Inv-loop μ-loop (λ c. (omega arith, leading-none _ _)) (λ c. search needs) (λ c. search needs) (λ c κs. search needs) (λ c. search needs)
     (λ c. search needs) (λ c. search needs) (λ c. search needs) (λ c. omega arith) loop-again returns)

@@ -3,11 +3,8 @@ use borrow.Author.Needs.{needs}
 use Rattle.words.proofs.ones.digit.Statement.{statement}
 use Rattle.words.proofs.ones.digit.Tie as tie
 
-returns : tie.Need-returns
-returns c = digit-one _ _ (c .before .set .ensures) (c .if1 .taken)
-
-returns-2 : tie.Need-returns-2
-returns-2 c = digit-none _ _ (c .before .set .ensures) (c .if1 .left)
-
 pub digit-spec : {M : Type 1} → statement M
-digit-spec = tie.close (tie.spec (λ c κs. search needs) returns returns-2)
+digit-spec =
+    tie.close
+    (tie.spec (λ c κs. search needs) (λ c. digit-one _ _ (c .before .set .ensures) (c .if1 .taken))
+    (λ c. digit-none _ _ (c .before .set .ensures) (c .if1 .left)))

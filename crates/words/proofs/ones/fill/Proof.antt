@@ -15,11 +15,10 @@ Inv-loop ones₀ i₀ ones i = (length ones ≡ 2048) × (i ≤ 2048) × ((k : �
 abbrev μ-loop : tie.MeasureT-loop
 μ-loop ones₀ i₀ ones i = 2048 - i
 
-loop-holds : tie.Need-loop-holds Inv-loop μ-loop
-loop-holds c = (c .before .pre, omega arith, λ k l. absurd (omega arith))
-
 loop-again : tie.Need-loop-again Inv-loop μ-loop
-loop-again c = (simp length-set (omega arith), omega arith, stored-more (λ k v. v ≡ bit (bitAt (k / 8) (k % 8))) (c .before .before .loop .ones) (c .before .before .loop .i) _ (omega arith) (c .before .before .loop .inv .2) (c .digit .ensures))
+loop-again c =
+    let b2 = c .before .before in
+    (simp length-set (omega arith), omega arith, stored-more (λ k v. v ≡ bit (bitAt (k / 8) (k % 8))) (b2 .loop .ones) (b2 .loop .i) _ (omega arith) (b2 .loop .inv .2) (c .digit .ensures))
 
 returns : tie.Need-returns Inv-loop μ-loop
 returns c = record { long = c .before .loop .inv .0; is = λ i l. c .before .loop .inv .2 i (omega arith) }
@@ -27,5 +26,5 @@ returns c = record { long = c .before .loop .inv .0; is = λ i l. c .before .loo
 pub fill-spec : {M : Type 1} → statement M
 fill-spec =
     tie.close
-    (tie.spec Inv-loop μ-loop loop-holds (λ c. omega arith) (λ c κs. omega arith) (λ c. search needs) (λ c. search needs)
-    (λ c. search needs) (λ c. search needs) loop-again (λ c. search needs) returns)
+    (tie.spec Inv-loop μ-loop (λ c. (c .before .pre, omega arith, λ k l. absurd (omega arith))) (λ c. omega arith) (λ c κs. omega arith)
+    (λ c. search needs) (λ c. search needs) (λ c. search needs) (λ c. search needs) loop-again (λ c. search needs) returns)

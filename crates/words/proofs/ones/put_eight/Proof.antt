@@ -1,7 +1,7 @@
 use Rattle.words.specs.OneLaws.{placed-none, placed-more}
 use Rattle.words.specs.Words.{Placed}
 use lib.ListN.{length, getD, length-set}
-use Prim.Native.Nat.{ℕ, _≤_, _-_}
+use Prim.Native.Nat.{_≤_, _-_}
 use mathlib.Core.Path.{_≡_, refl}
 use native.Mathlib.Omega.{arith}
 use borrow.Author.Needs.{needs}
@@ -14,17 +14,8 @@ Inv-loop l₀ x e k₀ l k = (length l ≡ length l₀) × (k ≤ 8) × Placed x
 abbrev μ-loop : tie.MeasureT-loop
 μ-loop l₀ x e k₀ l k = 8 - k
 
-loop-holds : tie.Need-loop-holds Inv-loop μ-loop
-loop-holds c = (refl, omega arith, placed-none _ _ _)
-
-slice-write-l : tie.Need-slice-write-l Inv-loop μ-loop
-slice-write-l c = omega (arith, c .before .before .loop .inv .0)
-
 loop-again : tie.Need-loop-again Inv-loop μ-loop
 loop-again c = (simp length-set (omega arith), omega arith, placed-more _ _ _ _ _ _ (omega (arith, c .before .before .loop .inv .0)) refl (c .before .before .loop .inv .2))
-
-same-length : tie.Need-same-length Inv-loop μ-loop
-same-length c = c .before .loop .inv .0
 
 returns : tie.Need-returns Inv-loop μ-loop
 returns c =
@@ -34,5 +25,6 @@ returns c =
 pub put-eight-spec : {M : Type 1} → statement M
 put-eight-spec =
     tie.close
-    (tie.spec Inv-loop μ-loop loop-holds (λ c. search needs) (λ c. search needs) (λ c. search needs) (λ c. search needs)
-    slice-write-l (λ c. search needs) (λ c. search needs) loop-again same-length returns)
+    (tie.spec Inv-loop μ-loop (λ c. (refl, omega arith, placed-none _ _ _)) (λ c. search needs) (λ c. search needs) (λ c. search needs)
+    (λ c. search needs) (λ c. omega (arith, c .before .before .loop .inv .0)) (λ c. search needs) (λ c. search needs) loop-again
+    (λ c. c .before .loop .inv .0) returns)

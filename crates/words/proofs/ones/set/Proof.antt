@@ -9,4 +9,6 @@ unfolding bitAt
 returns c = rw (and-mask _ 1)
 
 pub set-spec : {M : Type 1} → statement M
-set-spec = tie.close (tie.spec (λ c. search needs) (λ c. search needs) (λ c. search needs) returns)
+set-spec =
+    tie.close
+    (tie.spec (λ c. search needs) (λ c. search needs) (λ c. search needs) returns)

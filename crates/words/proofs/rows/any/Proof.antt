@@ -1,8 +1,6 @@
 use borrow.Author.Tests.{eqb-true, not-false}
 use Rattle.words.specs.Words.{column}
 use Rattle.words.specs.RowLaws.{rows-zero}
-use native.Mathlib.Omega.{arith}
-use borrow.Author.Needs.{needs}
 use Rattle.words.proofs.rows.any.Statement.{statement}
 use Rattle.words.proofs.rows.any.Tie as tie
 
@@ -11,4 +9,6 @@ unfolding column
 returns c = λ e. rows-zero _ _ _ _ (eqb-true _ _ (not-false _ e))
 
 pub any-spec : {M : Type 1} → statement M
-any-spec = tie.close (tie.spec returns)
+any-spec =
+    tie.close
+    (tie.spec returns)

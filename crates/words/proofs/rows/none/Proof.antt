@@ -1,7 +1,5 @@
 use Rattle.words.specs.Words.{column}
 use Rattle.words.specs.RowLaws.{rows-none}
-use native.Mathlib.Omega.{arith}
-use borrow.Author.Needs.{needs}
 use Rattle.words.proofs.rows.none.Statement.{statement}
 use Rattle.words.proofs.rows.none.Tie as tie
 
@@ -10,4 +8,6 @@ unfolding column
 returns c = rows-none
 
 pub none-spec : {M : Type 1} → statement M
-none-spec = tie.close (tie.spec returns)
+none-spec =
+    tie.close
+    (tie.spec returns)

@@ -1,4 +1,3 @@
-use native.Mathlib.Omega.{arith}
 use borrow.Author.Needs.{needs}
 use Rattle.words.proofs.rows.read_two.Statement.{statement}
 use Rattle.words.proofs.rows.read_two.Tie as tie

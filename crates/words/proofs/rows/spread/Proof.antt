@@ -1,10 +1,8 @@
 use Rattle.words.specs.RowLaws.{spread-word}
-use native.Mathlib.Omega.{arith}
 use borrow.Author.Needs.{needs}
 use Rattle.words.proofs.rows.spread.Statement.{statement}
 use Rattle.words.proofs.rows.spread.Tie as tie
 
--- src/rows.rt:130:1
 returns : tie.Need-returns
 returns c = λ a f. spread-word (c .args .l) (c .args .m) (c .args .n) (c .args .s) a f (c .pre .0) (c .pre .1)
 

@@ -1,13 +1,13 @@
 use Rattle.words.specs.Words.{column}
-use native.Mathlib.Omega.{arith}
 use borrow.Author.Needs.{needs}
 use Rattle.words.proofs.rows.wide.Statement.{statement}
 use Rattle.words.proofs.rows.wide.Tie as tie
 
--- src/rows.rt:158:1
 returns : tie.Need-returns
 unfolding column
 returns c = c .wide-words .ensures
 
 pub wide-spec : {M : Type 1} → statement M
-wide-spec = tie.close (tie.spec (λ c κs. search needs) returns)
+wide-spec =
+    tie.close
+    (tie.spec (λ c κs. search needs) returns)

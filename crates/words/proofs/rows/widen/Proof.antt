@@ -1,5 +1,5 @@
-use mathlib.Core.Path.{_≡_, subst}
-use Prim.Native.Nat.{ℕ, _+_, _-_, _≤_}
+use mathlib.Core.Path.{_≡_}
+use Prim.Native.Nat.{_-_, _≤_}
 use Rattle.words.specs.Words.{column, Widened}
 use Rattle.words.specs.RowLaws.{widened-none, widened-more, column-end}
 use native.Mathlib.Omega.{arith}
@@ -13,17 +13,12 @@ Inv-loop n r₀ done₀ r done = (done ≤ n) × (n ≤ 32) × Widened done (col
 abbrev μ-loop : tie.MeasureT-loop
 μ-loop n r₀ done₀ r done = n - done
 
--- src/rows.rt:180:5
-loop-holds : tie.Need-loop-holds Inv-loop μ-loop
-loop-holds c = (omega arith, omega arith, widened-none _)
-
--- src/rows.rt:180:5
 loop-again : tie.Need-loop-again Inv-loop μ-loop
 unfolding column
 loop-again c =
-    (omega arith, omega arith, widened-more _ _ _ _ _ (omega arith) (λ c h. column-end _ _ _ _ c h) (λ c h. column-end _ _ _ _ c h) (c .wide .ensures) (c .before .before .before .loop .inv .2))
+    let b3 = c .before .before .before in
+    (omega arith, omega arith, widened-more _ _ _ _ _ (omega arith) (λ c h. column-end _ _ _ _ c h) (λ c h. column-end _ _ _ _ c h) (c .wide .ensures) (b3 .loop .inv .2))
 
--- src/rows.rt:173:1
 returns : tie.Need-returns Inv-loop μ-loop
 returns c =
     let e : c .before .loop .done ≡ c .before .before .args .by .0 = omega arith in
@@ -32,5 +27,5 @@ returns c =
 pub widen-spec : {M : Type 1} → statement M
 widen-spec =
     tie.close
-    (tie.spec Inv-loop μ-loop loop-holds (λ c. search needs) (λ c. search needs) (λ c κs. search needs) (λ c κs. search needs)
-    (λ c. search needs) (λ c. search needs) loop-again returns)
+    (tie.spec Inv-loop μ-loop (λ c. (omega arith, omega arith, widened-none _)) (λ c. search needs) (λ c. search needs) (λ c κs. search needs)
+    (λ c κs. search needs) (λ c. search needs) (λ c. search needs) loop-again returns)
