@@ -16,7 +16,7 @@ use Rattle.rules.specs.Calls.{settingCases}
 use Rattle.rules.specs.Report.{jobLine, filled, excusedAbove, layerLine, planLines}
 use Rattle.rules.specs.declared.Settings.{Settings}
 use Rattle.laws.specs.Limits.{Ranged, ranged}
-use Rattle.lines.specs.Lines.{lineOf, line-length, spaced-length, job-pieces, Wrote, wrote-more, wrote-long}
+use Rattle.lines.specs.Lines.{lineOf, line-length, spaced-length, job-long, Wrote, _then_, wrote-long}
 use Rattle.laws.specs.Runs.{over-none}
 use Rattle.lines.specs.Counts.{Layer}
 
@@ -91,15 +91,14 @@ job-short s r =
     let hh = r .h-high in
     let hn = r .n-high in
     let hr = r .reach-high in
-    rw (job-pieces s)
-    (simp length-append (omega (
+    omega (
       arith,
+      job-long s (reachOf (s .pitch) (s .overhang)) refl,
       spaced-length (s .w) (omega arith),
       spaced-length (s .h) (omega arith),
       spaced-length (s .n) (omega arith),
-      spaced-length
-          (reachOf (s .pitch) (s .overhang) .0) (omega arith),
-    )))
+      spaced-length (reachOf (s .pitch) (s .overhang) .0) (omega arith),
+    )
 
 -- one line more
 joined-more : (k : ℕ) (a : ℕ) (f : ℕ → List ℕ) → joinedUp a (suc k) f ≡ joinedUp a k f ++ f (a + k)
@@ -114,18 +113,16 @@ joined-next k f = let z : 0 + k ≡ k = omega arith in rw add-one (joined-more k
 
 -- a layer's line was written from `at` on, and it is short
 pub record Counted (s : Settings) (part sup ring : List ℕ) (i at r : ℕ) (now was : List ℕ) : Type 0 where
-  pub ends : r ≡ at + length (layerLine s (pixel (s .w) (s .h) part) (pixel (s .w) (s .h) sup) (ringAt (s .w) (s .h) ring) i)
-  pub holds : now ≡ over was at (layerLine s (pixel (s .w) (s .h) part) (pixel (s .w) (s .h) sup) (ringAt (s .w) (s .h) ring) i)
+  pub wrote : Wrote was at now r (layerLine s (pixel (s .w) (s .h) part) (pixel (s .w) (s .h) sup) (ringAt (s .w) (s .h) ring) i)
   pub short : length (layerLine s (pixel (s .w) (s .h) part) (pixel (s .w) (s .h) sup) (ringAt (s .w) (s .h) ring) i) ≤ 24
 
-pub counted-from : (s : Settings) (part sup ring : List ℕ) (i at a b c r : ℕ) (now was : List ℕ) → i < 512 → a ≤ 65536 → b ≤ 65536 → c ≤ 65536 →
-    a ≡ count (s .h * s .w) (pixel (s .w) (s .h) part i) → b ≡ count (s .h * s .w) (pixel (s .w) (s .h) sup i) → c ≡ excusedAbove s (ringAt (s .w) (s .h) ring) i →
-    (r ≡ at + length (lineOf i a b c)) × (now ≡ over was at (lineOf i a b c)) → Counted s part sup ring i at r now was
-counted-from s part sup ring i at a b c r now was hi ha hb hc ea eb ec (e, is) =
+pub counted-from : {s : Settings} {part sup ring : List ℕ} {i at r : ℕ} {now was : List ℕ} (a b c : ℕ) → i < 512 →
+    (a ≡ count (s .h * s .w) (pixel (s .w) (s .h) part i)) × (a ≤ 65536) → (b ≡ count (s .h * s .w) (pixel (s .w) (s .h) sup i)) × (b ≤ 65536) →
+    (c ≡ excusedAbove s (ringAt (s .w) (s .h) ring) i) × (c ≤ 65536) → Wrote was at now r (lineOf i a b c) → Counted s part sup ring i at r now was
+counted-from {s} {part} {sup} {ring} {i} {at} {r} {now} {was} a b c hi (ea, ha) (eb, hb) (ec, hc) w =
     let z = layer-is s part sup ring i a b c ea eb ec in
     record {
-      ends = e ∙ ap (λ (l : List ℕ). at + length l) z;
-      holds = is ∙ ap (over was at) z;
+      wrote = subst (Wrote was at now r) z w;
       short = subst (λ (l : List ℕ). length l ≤ 24) z (line-length i a b c (omega arith) (omega arith) (omega arith) (omega arith));
     }
 
@@ -138,42 +135,35 @@ pub record LinesSoFar (s : Settings) (part sup ring was now : List ℕ) (start a
   pub wrote : Wrote was start now at (joinedUp 0 k (layerOf s part sup ring))
   pub short : at ≤ start + 24 * k
 
-pub no-lines-yet : (s : Settings) (part sup ring was : List ℕ) (start : ℕ) → start ≤ length was → LinesSoFar s part sup ring was was start start 0
+module _ {s : Settings} {part sup ring was now : List ℕ} {start at k : ℕ} (g : LinesSoFar s part sup ring was now start at k) where
+  pub line-room : k < s .n → start + 24 * s .n ≤ length was → at + 24 ≤ length now
+  line-room lk h = omega (arith, wrote-long (g .wrote), g .short)
+
+  pub line-more : {new : List ℕ} {r : ℕ} → Counted s part sup ring (s .n - 1 - k) at r new now → LinesSoFar s part sup ring was new start r (k + 1)
+  unfolding layerOf
+  line-more {new} {r} c =
+      let z = joined-next k (layerOf s part sup ring) in
+      record { wrote = subst (Wrote was start new r) (sym z) (g .wrote then c .wrote); short = omega (arith, g .short, c .short, c .wrote .ends) }
+
+  pub going-end : k ≤ s .n → s .n ≤ k → Lined s part sup ring was now start at
+  going-end a b =
+      let e : k ≡ s .n = omega arith in
+      record { wrote = subst (λ (j : ℕ). Wrote was start now at (joinedUp 0 j (layerOf s part sup ring))) e (g .wrote) }
+
+pub no-lines-yet : {s : Settings} {part sup ring was : List ℕ} {start : ℕ} → start ≤ length was → LinesSoFar s part sup ring was was start start 0
 unfolding joinedUp
-no-lines-yet s part sup ring was start h = record {
+no-lines-yet {was = was} {start = start} h = record {
   wrote = record { ends = omega arith; holds = over-none was start; fits = omega arith };
   short = omega arith;
 }
 
-pub line-room : (s : Settings) (part sup ring was now : List ℕ) (start at k : ℕ) → k < s .n → start + 24 * s .n ≤ length was → LinesSoFar s part sup ring was now start at k → at + 24 ≤ length now
-line-room s part sup ring was now start at k lk h g = omega (arith, wrote-long (g .wrote), g .short)
-
-pub line-more : (s : Settings) (part sup ring was now new : List ℕ) (start at r k : ℕ) → start + 24 * s .n ≤ length was → k < s .n → LinesSoFar s part sup ring was now start at k →
-    Counted s part sup ring (s .n - 1 - k) at r new now → LinesSoFar s part sup ring was new start r (k + 1)
-unfolding layerOf
-line-more s part sup ring was now new start at r k h lk g c =
-    let z : joinedUp 0 (k + 1) (layerOf s part sup ring) ≡ joinedUp 0 k (layerOf s part sup ring) ++ layerOf s part sup ring k = joined-next k (layerOf s part sup ring) in
-    let e = g .wrote .ends in
-    let l = length-append (joinedUp 0 k (layerOf s part sup ring)) (layerOf s part sup ring k) in
-    let sh = c .short in
-    let f : start + length (joinedUp 0 k (layerOf s part sup ring) ++ layerOf s part sup ring k) ≤ length was = omega (arith, g .short) in
-    let w = wrote-more (g .wrote) new r (layerOf s part sup ring k) f (c .ends, c .holds) in
-    record { wrote = subst (Wrote was start new r) (sym z) w; short = omega (arith, g .short, c .ends) }
-
-pub going-end : (s : Settings) (part sup ring was now : List ℕ) (start at k : ℕ) → k ≤ s .n → s .n ≤ k → LinesSoFar s part sup ring was now start at k → Lined s part sup ring was now start at
-going-end s part sup ring was now start at k a b g =
-    let e : k ≡ s .n = omega arith in
-    record { wrote = subst (λ (j : ℕ). Wrote was start now at (joinedUp 0 j (layerOf s part sup ring))) e (g .wrote) }
-
 -- the first line, and then the layers'
-pub job-room : (s : Settings) → Ranged s → (at : ℕ) (was : List ℕ) → at ≡ length (jobLine s) → length was ≡ 16384 → at + 24 * s .n ≤ length was
-job-room s r at was e n = let hn = r .n-high in omega (arith, job-short s r)
+pub job-room : {s : Settings} → Ranged s → (at : ℕ) (was : List ℕ) → at ≡ length (jobLine s) → length was ≡ 16384 → at + 24 * s .n ≤ length was
+job-room {s} r at was e n = omega (arith, r .n-high, job-short s r)
 
-pub job-whole : (s : Settings) (part sup ring was l now : List ℕ) (at r : ℕ) → Ranged s → length was ≡ 16384 → (at ≡ length (jobLine s)) × (l ≡ over was 0 (jobLine s)) →
+pub job-whole : {s : Settings} {part sup ring was l now : List ℕ} {at r : ℕ} → Ranged s → length was ≡ 16384 → (at ≡ length (jobLine s)) × (l ≡ over was 0 (jobLine s)) →
     Lined s part sup ring l now at r → Wrote was 0 now r (linesTo s part sup ring (s .n))
 unfolding linesTo
-job-whole s part sup ring was l now at r g n (e, is) w =
+job-whole {s} {was = was} {l = l} {at = at} g n (e, is) w =
     let first : Wrote was 0 l at (jobLine s) = record { ends = omega arith; holds = is; fits = omega (arith, job-short s g) } in
-    let v = w .wrote in
-    wrote-more first now r (joinedUp 0 (s .n) (layerOf s part sup ring))
-    (omega (arith, length-append (jobLine s) (joinedUp 0 (s .n) (layerOf s part sup ring)), v .fits, wrote-long first)) (v .ends, v .holds)
+    first then w .wrote

@@ -10,7 +10,7 @@ ghost use lib.ListN.{length};
 ghost use Rattle.rules.specs.Jobs.{over};
 ghost use Rattle.rules.specs.Report.{decimal, spaced, refusedLine, jobLine, excusedAbove};
 ghost use Rattle.rules.specs.Images.{ringAt};
-ghost use Rattle.lines.specs.Lines.{lineOf, Wrote};
+ghost use Rattle.lines.specs.Lines.{lineOf, jobOf, Wrote};
 ghost use Rattle.lines.specs.Whole.{Whole, Counted, Lined, linesTo};
 use counts::excused;
 use counts::filled;
@@ -29,7 +29,7 @@ fn digit(x: usize) -> u8
 
 fn put_decimal(out: &mut [u8], at: usize, x: usize) -> usize
     requires { ⌜ at + length (decimal x) ≤ length (now out) ⌝ }
-    ensures { λ r. ⌜ (r ≡ at + length (decimal x)) × (now (out .exit) ≡ over (now (out .entry)) at (decimal x)) ⌝ }
+    ensures { λ r. ⌜ Wrote (now (out .entry)) at (now (out .exit)) r (decimal x) ⌝ }
 {
     if x < 10 {
         out[at] = digit(x);
@@ -43,7 +43,7 @@ fn put_decimal(out: &mut [u8], at: usize, x: usize) -> usize
 // A space and a number.
 fn put_spaced(out: &mut [u8], at: usize, x: usize) -> usize
     requires { ⌜ at + length (spaced x) ≤ length (now out) ⌝ }
-    ensures { λ r. ⌜ (r ≡ at + length (spaced x)) × (now (out .exit) ≡ over (now (out .entry)) at (spaced x)) ⌝ }
+    ensures { λ r. ⌜ Wrote (now (out .entry)) at (now (out .exit)) r (spaced x) ⌝ }
 {
     out[at] = 32;
     put_decimal(out, at + 1, x)
@@ -51,7 +51,7 @@ fn put_spaced(out: &mut [u8], at: usize, x: usize) -> usize
 
 fn put_byte(out: &mut [u8], at: usize, b: u8) -> usize
     requires { ⌜ at + 1 ≤ length (now out) ⌝ }
-    ensures { λ r. ⌜ (r ≡ at + 1) × (now (out .exit) ≡ over (now (out .entry)) at (b ∷ [])) ⌝ }
+    ensures { λ r. ⌜ Wrote (now (out .entry)) at (now (out .exit)) r (b ∷ []) ⌝ }
 {
     out[at] = b;
     at + 1
@@ -59,7 +59,7 @@ fn put_byte(out: &mut [u8], at: usize, b: u8) -> usize
 
 fn put_word(out: &mut [u8], at: usize, word: &[u8]) -> usize
     requires { ⌜ at + length (now word) ≤ length (now out) ⌝ }
-    ensures { λ r. ⌜ (r ≡ at + length (now (word .entry))) × (now (out .exit) ≡ over (now (out .entry)) at (now (word .entry))) ⌝ }
+    ensures { λ r. ⌜ Wrote (now (out .entry)) at (now (out .exit)) r (now (word .entry)) ⌝ }
 {
     let mut i = 0;
     while i < word.len() {
@@ -79,21 +79,29 @@ pub fn refused_line(out: &mut [u8], k: usize) -> usize
     put_byte(out, number, 10)
 }
 
+// The first line, from its numbers.
+fn first_line(out: &mut [u8], w: usize, h: usize, n: usize, reach: usize) -> usize
+    requires { ⌜ 10 + length (spaced w) + length (spaced h) + length (spaced n) + length (spaced reach) ≤ length (now out) ⌝ }
+    ensures { λ r. ⌜ Wrote (now (out .entry)) 0 (now (out .exit)) r (jobOf w h n reach) ⌝ }
+{
+    let word = put_word(out, 0, b"job");
+    let width = put_spaced(out, word, w);
+    let height = put_spaced(out, width, h);
+    let layers = put_spaced(out, height, n);
+    let told = put_word(out, layers, b" reach");
+    let number = put_spaced(out, told, reach);
+    put_byte(out, number, 10)
+}
+
 // The first line: width, height, layers and reach.
 pub fn job_line(out: &mut [u8], s: Settings) -> usize
     requires { ⌜ (0 < s .pitch .0) × (length (jobLine s) ≤ length (now out)) ⌝ }
     ensures { λ r. ⌜ (r ≡ length (jobLine s)) × (now (out .exit) ≡ over (now (out .entry)) 0 (jobLine s)) ⌝ }
 {
-    let word = put_word(out, 0, b"job");
-    let width = put_spaced(out, word, s.w);
-    let height = put_spaced(out, width, s.h);
-    let layers = put_spaced(out, height, s.n);
     let pitch = s.pitch;
     let overhang = s.overhang;
     let reach = reach_of(pitch, overhang);
-    let told = put_word(out, layers, b" reach");
-    let number = put_spaced(out, told, reach.0);
-    put_byte(out, number, 10)
+    first_line(out, s.w, s.h, s.n, reach.0)
 }
 
 // The line of a layer.
@@ -105,8 +113,8 @@ fn layer_line(
     support: usize,
     excused: usize,
 ) -> usize
-    requires { ⌜ at + length (lineOf layer part support excused) ≤ length (now out) ⌝ }
-    ensures { λ r. ⌜ (r ≡ at + length (lineOf layer part support excused)) × (now (out .exit) ≡ over (now (out .entry)) at (lineOf layer part support excused)) ⌝ }
+    requires { ⌜ at + (length (decimal layer) + length (spaced part) + length (spaced support) + length (spaced excused) + 1) ≤ length (now out) ⌝ }
+    ensures { λ r. ⌜ Wrote (now (out .entry)) at (now (out .exit)) r (lineOf layer part support excused) ⌝ }
 {
     let first = put_decimal(out, at, layer);
     let second = put_spaced(out, first, part);

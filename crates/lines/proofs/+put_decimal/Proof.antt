@@ -95,8 +95,7 @@ put-decimal-slice-write-out-2 : (t : ℕ) → put-decimal-lts.Need-slice-write-o
 ) (put-decimal-at t) put-decimal.Post
 put-decimal-slice-write-out-2 t c =
     let b3 = c .before .before .before in let b5 = b3 .before .before in let b7 = b5 .before .before in
-    more-room (b7 .args .out .now) (b7 .args .at) (b7 .args .x) (b7 .pre .1) (b5 .if1 .left) (b3 .put-decimal .result) (b3 .put-decimal .last .0) (b3 .put-decimal .ensures .0)
-    (b3 .put-decimal .ensures .1)
+    more-room (b7 .args .out .now) (b7 .args .at) (b7 .args .x) (b7 .pre .1) (b5 .if1 .left) (b3 .put-decimal .ensures)
 
 put-decimal-add-result-2 : (t : ℕ) → put-decimal-lts.Need-add-result-2 (
   digit-reads.Asked,
@@ -108,8 +107,7 @@ put-decimal-add-result-2 t c =
     let b3 = c .before .before .before in let b5 = b3 .before .before in let b7 = b5 .before .before in
     omega (
       arith,
-      more-room (b7 .args .out .now) (b7 .args .at) (b7 .args .x) (b7 .pre .1) (b5 .if1 .left) (b3 .put-decimal .result) (b3 .put-decimal .last .0) (b3 .put-decimal .ensures .0)
-          (b3 .put-decimal .ensures .1),
+      more-room (b7 .args .out .now) (b7 .args .at) (b7 .args .x) (b7 .pre .1) (b5 .if1 .left) (b3 .put-decimal .ensures),
     )
 
 put-decimal-same-length-2 : (t : ℕ) → put-decimal-lts.Need-same-length-2 (
@@ -120,8 +118,7 @@ put-decimal-same-length-2 : (t : ℕ) → put-decimal-lts.Need-same-length-2 (
 ) (put-decimal-at t) put-decimal.Post
 put-decimal-same-length-2 t c =
     let b3 = c .before .before .before in let b5 = b3 .before .before in let b7 = b5 .before .before in
-    more-length (b7 .args .out .now) (b7 .args .at) (b7 .args .x) (b7 .pre .1) (b5 .if1 .left) (b3 .put-decimal .result) (b3 .put-decimal .last .0) (b3 .put-decimal .ensures .0)
-    (b3 .put-decimal .ensures .1) (c .digit2 .result)
+    more-length (b7 .args .out .now) (b7 .args .at) (b7 .args .x) (b7 .pre .1) (b5 .if1 .left) (b3 .put-decimal .ensures) (c .digit2 .result)
 
 put-decimal-returns-2 : (t : ℕ) → put-decimal-lts.Need-returns-2 (
   digit-reads.Asked,
@@ -131,8 +128,7 @@ put-decimal-returns-2 : (t : ℕ) → put-decimal-lts.Need-returns-2 (
 ) (put-decimal-at t) put-decimal.Post
 put-decimal-returns-2 t c =
     let b3 = c .before .before .before in let b5 = b3 .before .before in let b7 = b5 .before .before in
-    more-done (b7 .args .out .now) (b7 .args .at) (b7 .args .x) (b7 .pre .1) (b5 .if1 .left) (b3 .put-decimal .result) (b3 .put-decimal .last .0) (b3 .put-decimal .ensures .0)
-    (b3 .put-decimal .ensures .1) (c .digit2 .result) (c .digit2 .ensures)
+    more-done (b7 .args .out .now) (b7 .args .at) (b7 .args .x) (b7 .pre .1) (b5 .if1 .left) (b3 .put-decimal .ensures) (c .digit2 .result) (c .digit2 .ensures)
 
 pub +put-decimal-spec : {M : Type 1} → statement M
 +put-decimal-spec = close μ-put-decimal λ t. put-decimal-lts.spec (

@@ -13,13 +13,12 @@ job-line-requires c κs =
 layer-lines-requires : tie.Need-layer-lines-requires
 layer-lines-requires c κs =
     let b3 = c .before .before .before in let b9 = b3 .before .before .before .before .before .before in
-    (b9 .pre .0, job-room (b9 .args .s) (in-range (b9 .pre .0)) (b3 .job-line .result) (b3 .job-line .last .0) (b3 .job-line .ensures .0) (b3 .job-line .kept .0 ∙ b9 .pre .1))
+    (b9 .pre .0, job-room (in-range (b9 .pre .0)) _ (b3 .job-line .last .0) (b3 .job-line .ensures .0) (b3 .job-line .kept .0 ∙ b9 .pre .1))
 
 returns : tie.Need-returns
 returns c =
-    let b2 = c .before .before in let b6 = b2 .before .before .before .before in let b12 = b6 .before .before .before .before .before .before in let args = b12 .args in
-    job-whole (args .s) (args .part .now) (args .support .now) (args .rings .now) (args .out .now) (b6 .job-line .last .0) (b2 .layer-lines .last .0) (b6 .job-line .result)
-    (b2 .layer-lines .result) (in-range (b12 .pre .0)) (b12 .pre .1) (b6 .job-line .ensures) (b2 .layer-lines .ensures)
+    let b6 = c .before .before .before .before .before .before in let b12 = b6 .before .before .before .before .before .before in
+    job-whole (in-range (b12 .pre .0)) (b12 .pre .1) (b6 .job-line .ensures) (c .before .before .layer-lines .ensures)
 
 pub job-lines-spec : {M : Type 1} → statement M
 job-lines-spec =

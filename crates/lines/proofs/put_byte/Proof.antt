@@ -1,13 +1,9 @@
-use mathlib.Core.Path.{refl}
-use Rattle.laws.specs.Runs.{stores1}
+use Rattle.lines.specs.Lines.{wrote-byte}
 use borrow.Author.Needs.{needs}
 use Rattle.lines.proofs.put_byte.Statement.{statement}
 use Rattle.lines.proofs.put_byte.Tie as tie
 
-returns : tie.Need-returns
-returns c = (refl, stores1 (c .args .out .now) (c .args .at) (c .args .b) (c .pre))
-
 pub put-byte-spec : {M : Type 1} → statement M
 put-byte-spec =
     tie.close
-    (tie.spec (λ c. search needs) (λ c. search needs) (λ c. search needs) returns)
+    (tie.spec (λ c. search needs) (λ c. search needs) (λ c. search needs) (λ c. wrote-byte (c .args .out .now) (c .args .at) (c .args .b) (c .pre)))
