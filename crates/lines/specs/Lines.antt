@@ -1,4 +1,4 @@
--- The lines of the report as runs of bytes, one piece after another; and the line of a layer from its four numbers.
+-- The lines of the report as runs of bytes, one piece after another; the first line and that of a layer from their four numbers.
 use mathlib.Core.Path.{_≡_, sym, ap, subst, _∙_}
 use mathlib.Core.List.{List, [], _∷_, _++_, append-assoc}
 use Prim.Native.Nat.{ℕ, _+_, _<_, _≤_}
@@ -16,18 +16,18 @@ use Rattle.laws.specs.ReportLaws.{decimal-length}
 unfoldable pub lineOf : ℕ → ℕ → ℕ → ℕ → List ℕ
 lineOf i a b c = decimal i ++ spaced a ++ spaced b ++ spaced c ++ newline
 
-infixl 20 _then_
 -- l is `out` with the text xs from `at` on, which ends at r
 pub record Wrote (out : List ℕ) (at : ℕ) (l : List ℕ) (r : ℕ) (xs : List ℕ) : Type 0 where
   pub ends : r ≡ at + length xs
   pub holds : l ≡ over out at xs
   pub fits : at + length xs ≤ length out
 
+infixl 20 _then_
 module _ {out : List ℕ} {at : ℕ} {l : List ℕ} {r : ℕ} {xs : List ℕ} (w : Wrote out at l r xs) where
   pub wrote-long : length l ≡ length out
   wrote-long = ap length (w .holds) ∙ length-over out at xs (w .fits)
 
-  -- the next piece, written where this one ends
+  -- the next piece, written where this one ends: its own room is all the room that is asked
   pub _then_ : {m : List ℕ} {k : ℕ} {ys : List ℕ} → Wrote l r m k ys → Wrote out at m k (xs ++ ys)
   _then_ {m} {k} {ys} v =
       let z = length-append xs ys in

@@ -53,11 +53,11 @@ module _ {s : Settings} {part sup ring : List ℕ} (x : Whole s part sup ring) w
       let b : (i + 1) * s .h * rowBytes (s .w) ≤ s .n * s .h * rowBytes (s .w) = mul-le-mul a (omega arith) in
       record { w-low = r .w-low; w-high = r .w-high; h-high = r .h-high; i-high = omega arith; holds = omega arith }
 
-  pub part-layer : (i : ℕ) → i < s .n → Layer (s .w) (s .h) i part
-  part-layer i li = layer-in part i (x .part-long) li
+  pub part-layer : {i : ℕ} → i < s .n → Layer (s .w) (s .h) i part
+  part-layer {i} li = layer-in part i (x .part-long) li
 
-  pub support-layer : (i : ℕ) → i < s .n → Layer (s .w) (s .h) i sup
-  support-layer i li = layer-in sup i (x .sup-long) li
+  pub support-layer : {i : ℕ} → i < s .n → Layer (s .w) (s .h) i sup
+  support-layer {i} li = layer-in sup i (x .sup-long) li
 
   -- the rings of the pair above layer i
   pub pair-rings : (i : ℕ) → i + 1 < s .n → (s .w ≤ 256) × ((s .h ≤ 256) × ((i < 512) × ((i + 1) * (s .h * s .w) ≤ length ring)))

@@ -79,7 +79,7 @@ pub fn refused_line(out: &mut [u8], k: usize) -> usize
     put_byte(out, number, 10)
 }
 
-// The first line, from its numbers.
+// The first line, from its numbers: the room is asked piece by piece, so that each piece finds its own.
 fn first_line(out: &mut [u8], w: usize, h: usize, n: usize, reach: usize) -> usize
     requires { ⌜ 10 + length (spaced w) + length (spaced h) + length (spaced n) + length (spaced reach) ≤ length (now out) ⌝ }
     ensures { λ r. ⌜ Wrote (now (out .entry)) 0 (now (out .exit)) r (jobOf w h n reach) ⌝ }
@@ -104,7 +104,7 @@ pub fn job_line(out: &mut [u8], s: Settings) -> usize
     first_line(out, s.w, s.h, s.n, reach.0)
 }
 
-// The line of a layer.
+// The line of a layer, its room asked in the same way.
 fn layer_line(
     out: &mut [u8],
     at: usize,

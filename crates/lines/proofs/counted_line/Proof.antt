@@ -21,12 +21,12 @@ returns : tie.Need-returns
 returns c =
     let b4 = c .before .before .before .before in let b5 = b4 .before in let b6 = b5 .before in let b11 = b6 .before .before .before .before .before in
     let hn = in-range (b11 .pre .0) .n-high in
-    counted-from _ _ _ (omega (arith, b11 .pre .1 .0)) (b6 .filled .ensures) (b5 .filled2 .ensures) (b4 .excused-above .ensures) (c .before .before .layer-line .ensures)
+    counted-from _ _ _ (omega arith) (b6 .filled .ensures) (b5 .filled2 .ensures) (b4 .excused-above .ensures) (c .before .before .layer-line .ensures)
 
 pub counted-line-spec : {M : Type 1} → statement M
 counted-line-spec =
     tie.close
-    (tie.spec (λ c κs. let b4 = c .before .before .before .before in part-layer (b4 .pre .0) (b4 .args .i) (b4 .pre .1 .0))
-    (λ c κs. let b5 = c .before .before .before .before .before in support-layer (b5 .pre .0) (b5 .args .i) (b5 .pre .1 .0))
+    (tie.spec (λ c κs. let b4 = c .before .before .before .before in part-layer (b4 .pre .0) (b4 .pre .1 .0))
+    (λ c κs. let b5 = c .before .before .before .before .before in support-layer (b5 .pre .0) (b5 .pre .1 .0))
     (λ c κs. let b6 = c .before .before .before .before .before .before in (b6 .pre .1 .0, pair-rings (b6 .pre .0) (b6 .args .i)))
     layer-line-requires (λ c. search needs) returns)

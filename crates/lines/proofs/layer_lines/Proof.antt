@@ -15,7 +15,7 @@ abbrev μ-loop : tie.MeasureT-loop
 counted-line-requires : tie.Need-counted-line-requires Inv-loop μ-loop
 counted-line-requires c κs =
     let b2 = c .before .before in let b7 = b2 .before .before .before .before .before in
-    (b7 .pre .0, (omega (arith, c .before .loop-test .taken), line-room (b2 .loop .inv .1) (c .before .loop-test .taken) (b7 .pre .1)))
+    (b7 .pre .0, (omega arith, line-room (b2 .loop .inv .1) (c .before .loop-test .taken) (b7 .pre .1)))
 
 loop-again : tie.Need-loop-again Inv-loop μ-loop
 loop-again c =
@@ -25,6 +25,6 @@ loop-again c =
 pub layer-lines-spec : {M : Type 1} → statement M
 layer-lines-spec =
     tie.close
-    (tie.spec Inv-loop μ-loop (λ c. (omega arith, no-lines-yet (omega (arith, c .before .before .before .before .pre .1))))
-    (λ c. omega (arith, c .before .loop-test .taken)) (λ c. omega (arith, c .before .loop-test .taken)) counted-line-requires (λ c. search needs) (λ c. search needs) loop-again
+    (tie.spec Inv-loop μ-loop (λ c. (omega arith, no-lines-yet (omega arith)))
+    (λ c. omega arith) (λ c. omega arith) counted-line-requires (λ c. search needs) (λ c. search needs) loop-again
     (λ c. wrote-long (c .before .loop .inv .1 .wrote)) (λ c. going-end (c .before .loop .inv .1) (c .before .loop .inv .0) (c .loop-test .left)))
