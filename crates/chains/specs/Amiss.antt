@@ -6,7 +6,7 @@ use Prim.Native.Nat.{ℕ, _+_, _-_, _*_, _<_, _≤_}
 use native.Mathlib.Omega.{arith}
 use lib.ListN.{length, getD}
 use Rattle.rules.specs.Images.{Plane, Stack, rowBytes, pixel, ringAt}
-use Rattle.rules.specs.Planning.{near}
+use Rattle.rules.specs.Planning.{near, seeds, source}
 use Rattle.rules.specs.Judging.{badRing, unheld}
 use Rattle.image.specs.Rows.{packed}
 use Rattle.places.specs.Search.{badHere, unheldHere, flat, Sized}
@@ -18,6 +18,10 @@ use Rattle.quick.specs.Sureness.{Whole, Long}
 use Rattle.quick.specs.RowsOfPair.{put-four}
 use Rattle.quick.specs.Layers.{sizes-of, near-drawn}
 use Rattle.quick.specs.declared.Sure.{Sure}
+
+-- what a pixel of ring k must touch
+unfoldable pub lender : ℕ → List ℕ → List ℕ → List ℕ → ℕ → Plane
+lender w low up rings k = source (seeds (packed w low) (packed w up)) (λ o. getD rings o 0) (k - 1)
 
 -- in a pair of layers, by their bytes
 unfoldable pub amissHere : Bool → ℕ → ℕ → ℕ → List ℕ → List ℕ → List ℕ → List ℕ → List ℕ → Plane

@@ -8,16 +8,23 @@ use native.Mathlib.Omega.{arith}
 use lib.Dec.{ltb}
 use lib.ListN.{getD}
 use borrow.Author.Tests.{ltb-true, ltb-false, eq-eqb, ne-eqb, lt-ltb, le-ltb}
+use Rattle.rules.specs.Tools.{some}
 use Rattle.rules.specs.Images.{Plane, rowBytes}
 use Rattle.rules.specs.Planning.{shadow, near, seeds, source, reached, touch, touching, fits}
-use Rattle.laws.specs.Tests.{split, clash, and-in, some-in}
+use Rattle.laws.specs.Tests.{split, clash, and-in, and-false, some-in, some-out}
 use Rattle.laws.specs.Places.{digits-in}
 use Rattle.laws.specs.Neighbours.{Touching, touch-out, touch-in}
-use Rattle.places.specs.Search.{bitIn, badHere, unheldHere, lender}
-use Rattle.places.specs.BitLaws.{and-true, and-false}
+use Rattle.places.specs.Search.{bitIn, badHere, unheldHere}
 use Rattle.places.specs.Planes.{row-in, plane-at, in-plane}
 use Rattle.image.specs.Rows.{packed}
-use Rattle.places.specs.Finding.{some-none}
+use Rattle.chains.specs.Amiss.{lender}
+
+and-true : (a : Bool) → (a && true) ≡ a
+and-true true = refl
+and-true false = refl
+
+some-none : (n : ℕ) (f : ℕ → Bool) → ((x : ℕ) → x < n → f x ≡ false) → some n f ≡ false
+some-none n f h = split (some n f) (λ t. let (x, l, e) = some-out n f t in clash e (h x l)) (λ e. e)
 
 -- the byte of a pixel lies in its plane
 pub byte-in-plane : (w h y x rb len : ℕ) → y < h → x < w → rb ≡ rowBytes w → len ≡ h * rowBytes w → y * rb + x / 8 < len

@@ -5,7 +5,8 @@ ghost use Prim.Native.Nat.{_+_, _*_, _/_, _<_};
 ghost use lib.ListN.{length, getD};
 ghost use Rattle.rules.specs.Images.{rowBytes};
 ghost use Rattle.rules.specs.Planning.{touch, touching};
-ghost use Rattle.places.specs.Search.{bitIn, lender, Sized};
+ghost use Rattle.places.specs.Search.{bitIn, Sized};
+ghost use Rattle.chains.specs.Amiss.{lender};
 
 // Whether the pixel at column x of a row is a seed.
 fn seed_at(low: &[u8], up: &[u8], at: usize, x: usize) -> bool

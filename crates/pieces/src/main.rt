@@ -105,90 +105,69 @@ fn show_check(name: &[u8], support: &[u8], rings: &[u16]) {
     show_judged(judge(settings(8, 1, 2, 100, 200), &part, support, rings));
 }
 
-fn one_row() {
-    let mut one = [0xAAu8; 1];
-    let mut two = [0xAAu8; 2];
-    let mut none = [7u16; 0];
-    let mut rings = [7u16; 8];
+// Plans one layer of eight pixels.
+fn one_layer(name: &[u8], part: &[u8]) {
+    let mut support = [0xAAu8; 1];
+    let mut rings = [7u16; 0];
     show_plan(
-        b"a",
+        name,
         settings(8, 1, 1, 100, 200),
-        &[0xFF],
-        &mut one,
-        &mut none,
-    );
-    show_plan(
-        b"b",
-        settings(8, 1, 2, 100, 200),
-        &[0xE0, 0xFF],
-        &mut two,
-        &mut rings,
-    );
-    show_plan(
-        b"c",
-        settings(8, 1, 2, 100, 200),
-        &[0xE0, 0x1F],
-        &mut two,
-        &mut rings,
-    );
-    show_plan(
-        b"d",
-        settings(8, 1, 2, 100, 300),
-        &[0xE0, 0xF7],
-        &mut two,
-        &mut rings,
-    );
-    show_plan(
-        b"e",
-        settings(8, 1, 2, 100, 99),
-        &[0xE0, 0xFF],
-        &mut two,
+        part,
+        &mut support,
         &mut rings,
     );
 }
 
-fn more_layers() {
-    let mut three = [0xAAu8; 3];
+// Plans two layers of eight pixels.
+fn two_layers(name: &[u8], part: &[u8], overhang: u32) {
+    let mut support = [0xAAu8; 2];
+    let mut rings = [7u16; 8];
+    show_plan(
+        name,
+        settings(8, 1, 2, 100, overhang),
+        part,
+        &mut support,
+        &mut rings,
+    );
+}
+
+// Plans three layers of eight pixels.
+fn three_layers(name: &[u8], part: &[u8]) {
+    let mut support = [0xAAu8; 3];
     let mut rings = [7u16; 16];
     show_plan(
-        b"f",
+        name,
         settings(8, 1, 3, 100, 200),
-        &[0x00, 0xE0, 0xFF],
-        &mut three,
+        part,
+        &mut support,
         &mut rings,
     );
+}
+
+// Plans two layers of two rows of two pixels.
+fn squares(name: &[u8], part: &[u8]) {
+    let mut support = [0xAAu8; 4];
+    let mut rings = [7u16; 4];
     show_plan(
-        b"g",
-        settings(8, 1, 3, 100, 200),
-        &[0x01, 0xE0, 0xFF],
-        &mut three,
-        &mut rings,
-    );
-    let mut four = [0xAAu8; 4];
-    let mut small = [7u16; 4];
-    show_plan(
-        b"h",
+        name,
         settings(2, 2, 2, 100, 100),
-        &[0x80, 0x00, 0xC0, 0xC0],
-        &mut four,
-        &mut small,
+        part,
+        &mut support,
+        &mut rings,
     );
-    let mut two = [0xAAu8; 2];
-    let mut eight = [7u16; 8];
-    show_plan(
-        b"i zero",
-        settings(8, 1, 2, 100, 200),
-        &[0x00, 0x00],
-        &mut two,
-        &mut eight,
-    );
-    show_plan(
-        b"i equal",
-        settings(8, 1, 2, 100, 200),
-        &[0xE7, 0xE7],
-        &mut two,
-        &mut eight,
-    );
+}
+
+fn plans() {
+    one_layer(b"a", &[0xFF]);
+    two_layers(b"b", &[0xE0, 0xFF], 200);
+    two_layers(b"c", &[0xE0, 0x1F], 200);
+    two_layers(b"d", &[0xE0, 0xF7], 300);
+    two_layers(b"e", &[0xE0, 0xFF], 99);
+    three_layers(b"f", &[0x00, 0xE0, 0xFF]);
+    three_layers(b"g", &[0x01, 0xE0, 0xFF]);
+    squares(b"h", &[0x80, 0x00, 0xC0, 0xC0]);
+    two_layers(b"i zero", &[0x00, 0x00], 200);
+    two_layers(b"i equal", &[0xE7, 0xE7], 200);
 }
 
 fn checks() {
@@ -274,40 +253,36 @@ fn fill_half(s: &mut [u8]) {
     }
 }
 
-// Two layers of 256 by 256 pixels: both full, and a full one over a half, for a reach of 32 and of 0.
-fn wide_layers() {
-    let mut part = [0u8; 16384];
+// Two layers of 256 by 256 pixels.
+fn wide_layers(name: &[u8], part: &[u8], overhang: u32) {
     let mut support = [0xAAu8; 16384];
     let mut rings = [7u16; 65536];
-    fill(&mut part, 0, 16384);
     show_large(
-        b"full",
-        settings(256, 256, 2, 10, 320),
-        &part,
-        &mut support,
-        &mut rings,
-    );
-    let mut half = [0u8; 16384];
-    fill(&mut half, 8192, 8192);
-    fill_half(&mut half);
-    show_large(
-        b"half, reach 32",
-        settings(256, 256, 2, 10, 320),
-        &half,
-        &mut support,
-        &mut rings,
-    );
-    show_large(
-        b"half, reach 0",
-        settings(256, 256, 2, 10, 9),
-        &half,
+        name,
+        settings(256, 256, 2, 10, overhang),
+        part,
         &mut support,
         &mut rings,
     );
 }
 
-// 512 layers of one pixel, of which only the top one is filled; and rows of nine pixels.
-fn many_layers() {
+fn full() {
+    let mut part = [0u8; 16384];
+    fill(&mut part, 0, 16384);
+    wide_layers(b"full", &part, 320);
+}
+
+// A full layer over a half, for a reach of 32 and of 0.
+fn half() {
+    let mut part = [0u8; 16384];
+    fill(&mut part, 8192, 8192);
+    fill_half(&mut part);
+    wide_layers(b"half, reach 32", &part, 320);
+    wide_layers(b"half, reach 0", &part, 9);
+}
+
+// 512 layers of one pixel, of which only the top one is filled.
+fn tower() {
     let mut part = [0u8; 512];
     let mut support = [0xAAu8; 512];
     let mut rings = [7u16; 511];
@@ -319,21 +294,26 @@ fn many_layers() {
         &mut support,
         &mut rings,
     );
-    let mut rows = [0xAAu8; 8];
-    let mut nines = [7u16; 18];
+}
+
+// Two layers of two rows of nine pixels.
+fn nines() {
+    let mut support = [0xAAu8; 8];
+    let mut rings = [7u16; 18];
     show_plan(
         b"nine",
         settings(9, 2, 2, 100, 200),
         &[0x80, 0x00, 0x00, 0x00, 0xFF, 0x80, 0x00, 0x80],
-        &mut rows,
-        &mut nines,
+        &mut support,
+        &mut rings,
     );
 }
 
 fn main() {
-    one_row();
-    more_layers();
+    plans();
     checks();
-    wide_layers();
-    many_layers();
+    full();
+    half();
+    tower();
+    nines();
 }

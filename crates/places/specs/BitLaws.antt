@@ -1,6 +1,6 @@
 -- What operations on bytes do to the eight pixels of each.
-use mathlib.Core.Path.{_≡_, refl, ap, _∙_}
-use mathlib.Core.Bool.{Bool, true, false, _&&_}
+use mathlib.Core.Path.{_≡_, ap, _∙_}
+use mathlib.Core.Bool.{false}
 use mathlib.Core.List.{List}
 use Prim.Native.Nat.{ℕ, _+_, _/_, _%_, _<_}
 use native.Mathlib.Omega.{arith}
@@ -19,11 +19,3 @@ byte-in s at c k e l =
     let d : (c + k) / 8 ≡ c / 8 = omega arith in
     let m : (c + k) % 8 ≡ k = omega arith in
     rw (d, m)
-
-pub and-true : (a : Bool) → (a && true) ≡ a
-and-true true = refl
-and-true false = refl
-
-pub and-false : (a : Bool) → (a && false) ≡ false
-and-false true = refl
-and-false false = refl

@@ -5,8 +5,8 @@ use Prim.Native.Nat.{ℕ, _+_, _-_, _<_, _≤_}
 use native.Mathlib.Omega.{arith}
 use lib.Dec.{ltb}
 use borrow.Author.Tests.{ltb-true, ltb-false}
-use Rattle.rules.specs.Tools.{nothing, found, first, some}
-use Rattle.laws.specs.Tests.{split, clash, some-out}
+use Rattle.rules.specs.Tools.{nothing, found, first}
+use Rattle.laws.specs.Tests.{split}
 use Rattle.laws.specs.Places.{none-is, one-is, first-is, first-unique}
 use Rattle.places.specs.Search.{FirstOf}
 
@@ -51,6 +51,3 @@ least-nothing n f r s l =
 module _ (a e : ℕ) (f : ℕ → Bool) (k : ℕ) (before : (y : ℕ) → 0 ≤ y → y < a → f y ≡ false) (r : FirstOf a e f k) where
   onward : (y : ℕ) → 0 ≤ y → y < k → f y ≡ false
   onward y z l = split (ltb y a) (λ t. before y z (ltb-true y a t)) (λ t. r .before y (ltb-false y a t) l)
-
-pub some-none : (n : ℕ) (f : ℕ → Bool) → ((x : ℕ) → x < n → f x ≡ false) → some n f ≡ false
-some-none n f h = split (some n f) (λ t. let (x, l, e) = some-out n f t in clash e (h x l)) (λ e. e)

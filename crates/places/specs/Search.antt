@@ -6,8 +6,7 @@ use Prim.Native.Nat.{ℕ, _+_, _-_, _*_, _/_, _%_, _≤_, _<_}
 use lib.Dec.{ltb, eqb}
 use lib.ListN.{getD}
 use Rattle.rules.specs.Images.{Plane, Stack, bitAt}
-use Rattle.image.specs.Rows.{packed}
-use Rattle.rules.specs.Planning.{seeds, reached, touch, source, fits}
+use Rattle.rules.specs.Planning.{seeds, reached, touch, fits}
 
 -- r is the first of a, a + 1, .., n - 1 that passes; n where none does
 pub record FirstOf (a n : ℕ) (f : ℕ → Bool) (r : ℕ) : Type 0 where
@@ -37,10 +36,6 @@ unheldHere low up below above ring p = (up p || above p) && not (low p || below 
 -- overlap in the row whose bytes start at `at`
 unfoldable pub overlapIn : List ℕ → List ℕ → ℕ → ℕ → Bool
 overlapIn part sup at c = bitIn sup at c && bitIn part at c
-
--- what a pixel of ring k must touch
-unfoldable pub lender : ℕ → List ℕ → List ℕ → List ℕ → ℕ → Plane
-lender w low up rings k = source (seeds (packed w low) (packed w up)) (λ o. getD rings o 0) (k - 1)
 
 -- the sizes of a plane
 pub record Sized (w h : ℕ) : Type 0 where

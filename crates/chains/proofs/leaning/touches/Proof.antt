@@ -4,7 +4,7 @@ use Prim.Native.Nat.{_*_, _+_, _-_, _<_, _≤_, max, ℕ}
 use mathlib.Core.Bool.{false}
 use mathlib.Core.Path.{_∙_, _≡_, refl, sym}
 use Rattle.chains.specs.NeighbourLaws.{col-more, own-lends, row-more, touch-hit, touch-none}
-use Rattle.places.specs.Search.{lender}
+use Rattle.chains.specs.Amiss.{lender}
 use Rattle.chains.proofs.leaning.touches.Statement.{statement}
 use Rattle.chains.proofs.leaning.touches.Tie as tie
 
