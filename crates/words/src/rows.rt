@@ -196,7 +196,7 @@ pub fn any(x: Row) -> bool
     x.a | x.b | x.c | x.d != 0
 }
 
-// How many bits of a word are set. That it is a word is said for `count`, which has only the row at hand.
+// How many bits of a word are set. That x is below 2^64 is told too: a proof about a row has no other way to know it of its words.
 fn ones(x: u64) -> usize
     ensures { λ r. ⌜ (r ≡ ones x) × (r ≤ 64) × (x < 2 ^ 64) ⌝ }
 {
