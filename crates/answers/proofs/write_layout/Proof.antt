@@ -50,6 +50,6 @@ returns-2 c =
 pub write-layout-spec : {M : Type 1} → statement M
 write-layout-spec =
     tie.close
-    (tie.spec Inv-loop μ-loop (λ c κs. search needs) (λ c. search needs) (λ c. search needs) (λ c. (omega arith, omega arith, refl)) same-length returns
-    (λ c. search needs) (λ c. omega (arith, c .before .loop-test .taken)) (λ c. omega (arith, c .before .before .loop .inv .0)) (λ c. c .if1 .left)
-    (λ c. search needs) (λ c. search needs) loop-again same-length-2 returns-2)
+    (tie.spec Inv-loop μ-loop (λ c κs. search needs) (λ c. search needs) (λ c. search needs) (λ c. (omega arith, omega arith, refl)) same-length returns (λ c. search needs)
+    (λ c. omega (arith, c .before .loop-test .taken)) (λ c. omega (arith, c .before .before .loop .inv .0)) (λ c. c .if1 .left) (λ c. search needs) (λ c. search needs) loop-again same-length-2
+    returns-2)

@@ -21,14 +21,6 @@ returns c =
           (c .before .copy-refusal .ensures) (c .if1 .taken);
     }
 
-layout-requires : tie.Need-layout-requires
-layout-requires c κs = copying _ _ (sym (c .before .copy-refusal .ensures) ∙ c .if1 .left) .accepted
-
-get16s-requires : tie.Need-get16s-requires
-get16s-requires c κs =
-    let v = copying _ _ (sym (c .before .before .before .copy-refusal .ensures) ∙ c .before .before .if1 .left) in
-    rw (← c .before .layout .ensures) at (v .fits)
-
 returns-2 : tie.Need-returns-2
 unfolding copyAnswer copyRings
 returns-2 c =
@@ -42,4 +34,6 @@ returns-2 c =
 pub copy-rings-spec : {M : Type 1} → statement M
 copy-rings-spec =
     tie.close
-    (tie.spec (λ c κs. search needs) returns layout-requires get16s-requires (λ c. search needs) returns-2)
+    (tie.spec (λ c κs. search needs) returns (λ c κs. copying _ _ (sym (c .before .copy-refusal .ensures) ∙ c .if1 .left) .accepted)
+    (λ c κs. let v = copying _ _ (sym (c .before .before .before .copy-refusal .ensures) ∙ c .before .before .if1 .left) in rw (← c .before .layout .ensures) at (v .fits)) (λ c. search needs)
+    returns-2)

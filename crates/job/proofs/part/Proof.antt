@@ -16,13 +16,6 @@ returns c =
     let b4 = c .before .before .before .before in
     record { stretch = says-no (partIn (now (b4 .args .file))) (λ k. []) (c .before .before .read-refusal .ensures) (c .before .if1 .taken) }
 
-settings-in-requires : tie.Need-settings-in-requires
-settings-in-requires c κs = head-whole _ (sym (c .before .read-refusal .ensures) ∙ c .if1 .left)
-
-part-in-requires : tie.Need-part-in-requires
-part-in-requires c κs = let b = behind _ _ (sym (c .before .before .read-refusal .ensures) ∙ c .before .if1 .left) (c .settings-in .ensures) in
-    (b .fine, c .settings-in .ensures, omega (arith, b .count))
-
 returns-2 : tie.Need-returns-2
 unfolding partAnswer
 returns-2 c =
@@ -32,4 +25,6 @@ returns-2 c =
 pub part-spec : {M : Type 1} → statement M
 part-spec =
     tie.close
-    (tie.spec (λ c κs. search needs) (λ c. search needs) returns settings-in-requires part-in-requires returns-2)
+    (tie.spec (λ c κs. search needs) (λ c. search needs) returns (λ c κs. head-whole _ (sym (c .before .read-refusal .ensures) ∙ c .if1 .left))
+    (λ c κs. let b = behind _ _ (sym (c .before .before .read-refusal .ensures) ∙ c .before .if1 .left) (c .settings-in .ensures) in (b .fine, c .settings-in .ensures, omega (arith, b .count)))
+    returns-2)

@@ -15,12 +15,6 @@ returns c =
     let b4 = c .before .before .before .before in
     record { stretch = says-no (supportIn (now (b4 .args .file))) (λ k. []) (c .before .before .read-refusal .ensures) (c .before .if1 .taken) }
 
-settings-in-requires : tie.Need-settings-in-requires
-settings-in-requires c κs = head-whole _ (sym (c .before .read-refusal .ensures) ∙ c .if1 .left)
-
-stored-in-requires : tie.Need-stored-in-requires
-stored-in-requires c κs = let b = behind _ _ (sym (c .before .before .read-refusal .ensures) ∙ c .before .if1 .left) (c .settings-in .ensures) in (b .fine, b .count)
-
 support-in-requires : tie.Need-support-in-requires
 support-in-requires c κs =
     let b3 = c .before .before .before in
@@ -35,4 +29,5 @@ returns-2 c =
 pub support-spec : {M : Type 1} → statement M
 support-spec =
     tie.close
-    (tie.spec (λ c κs. search needs) (λ c. search needs) returns settings-in-requires stored-in-requires support-in-requires returns-2)
+    (tie.spec (λ c κs. search needs) (λ c. search needs) returns (λ c κs. head-whole _ (sym (c .before .read-refusal .ensures) ∙ c .if1 .left))
+    (λ c κs. let b = behind _ _ (sym (c .before .before .read-refusal .ensures) ∙ c .before .if1 .left) (c .settings-in .ensures) in (b .fine, b .count)) support-in-requires returns-2)

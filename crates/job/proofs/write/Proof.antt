@@ -19,14 +19,6 @@ returns c =
           (c .if1 .taken);
     }
 
-put-job-requires : tie.Need-put-job-requires
-put-job-requires c κs = writable-exactly _ _ .0 (sym (c .before .before .write-refusal .ensures) ∙ c .before .if1 .left)
-
-stored-rows-requires : tie.Need-stored-rows-requires
-stored-rows-requires c κs =
-    let b4 = c .before .before .before .before in let b5 = b4 .before in
-    writable-exactly _ _ .0 (sym (b5 .write-refusal .ensures) ∙ b4 .if1 .left) .0 .settings
-
 job-end-requires : tie.Need-job-end-requires
 job-end-requires c κs =
     let b5 = c .before .before .before .before .before in let b6 = b5 .before in
@@ -44,4 +36,6 @@ returns-2 c =
 pub write-spec : {M : Type 1} → statement M
 write-spec =
     tie.close
-    (tie.spec (λ c κs. search needs) returns put-job-requires stored-rows-requires job-end-requires (λ c. search needs) returns-2)
+    (tie.spec (λ c κs. search needs) returns (λ c κs. writable-exactly _ _ .0 (sym (c .before .before .write-refusal .ensures) ∙ c .before .if1 .left))
+    (λ c κs. let b4 = c .before .before .before .before in let b5 = b4 .before in writable-exactly _ _ .0 (sym (b5 .write-refusal .ensures) ∙ b4 .if1 .left) .0 .settings) job-end-requires
+    (λ c. search needs) returns-2)

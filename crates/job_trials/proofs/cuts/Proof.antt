@@ -17,6 +17,5 @@ abbrev μ-loop : tie.MeasureT-loop
 pub cuts-spec : {M : Type 1} → statement M
 cuts-spec =
     tie.close
-    (tie.spec Inv-loop μ-loop (λ c. omega arith) (λ c. sym (length-take-le _ _ (c .before .before .loop .inv .0))) (λ c κs. search needs)
-    (λ c κs. search needs) (λ c. omega arith) (λ c. omega arith) (λ c. omega arith) (λ c. ⊎-elim (λ w. omega arith) (λ w. omega arith) (c .if1 .came))
-    (λ c. search needs))
+    (tie.spec Inv-loop μ-loop (λ c. omega arith) (λ c. sym (length-take-le _ _ (c .before .before .loop .inv .0))) (λ c κs. search needs) (λ c κs. search needs) (λ c. omega arith) (λ c. omega arith)
+    (λ c. omega arith) (λ c. ⊎-elim (λ w. omega arith) (λ w. omega arith) (c .if1 .came)) (λ c. search needs))

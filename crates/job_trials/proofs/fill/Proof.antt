@@ -15,5 +15,5 @@ abbrev μ-loop : tie.MeasureT-loop
 pub fill-spec : {M : Type 1} → statement M
 fill-spec =
     tie.close
-    (tie.spec Inv-loop μ-loop (λ c. (omega arith, refl)) (λ c. omega arith) (λ c. omega arith) (λ c. omega arith) (λ c. omega arith) (λ c. omega arith)
-    (λ c. omega arith) (λ c. (omega arith, simp length-set (c .before .loop .inv .1))) (λ c. c .before .loop .inv .1) (λ c. search needs))
+    (tie.spec Inv-loop μ-loop (λ c. (omega arith, refl)) (λ c. omega arith) (λ c. omega arith) (λ c. omega arith) (λ c. omega arith) (λ c. omega arith) (λ c. omega arith)
+    (λ c. (omega arith, simp length-set (c .before .loop .inv .1))) (λ c. c .before .loop .inv .1) (λ c. search needs))

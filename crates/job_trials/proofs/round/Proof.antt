@@ -4,15 +4,10 @@ use borrow.Author.Needs.{needs}
 use Rattle.job_trials.proofs.round.Statement.{statement}
 use Rattle.job_trials.proofs.round.Tie as tie
 
-slice-aggregate-show-back : tie.Need-slice-aggregate-show-back
-slice-aggregate-show-back c = sym (length-take-le _ _ (c .before .before .before .written .ensures))
-
-slice-aggregate-show-again : tie.Need-slice-aggregate-show-again
-slice-aggregate-show-again c = sym (length-take-le _ _ (c .before .before .before .before .before .before .before .before .written .ensures))
-
 pub round-spec : {M : Type 1} → statement M
 round-spec =
     tie.close
-    (tie.spec (λ c κs. search needs) (λ c κs. search needs) (λ c κs. search needs) (λ c κs. search needs) (λ c. search needs) slice-aggregate-show-back
-    (λ c κs. search needs) (λ c. search needs) slice-aggregate-show-again (λ c κs. search needs) (λ c. search needs) (λ c. search needs)
+    (tie.spec (λ c κs. search needs) (λ c κs. search needs) (λ c κs. search needs) (λ c κs. search needs) (λ c. search needs)
+    (λ c. sym (length-take-le _ _ (c .before .before .before .written .ensures))) (λ c κs. search needs) (λ c. search needs)
+    (λ c. sym (length-take-le _ _ (c .before .before .before .before .before .before .before .before .written .ensures))) (λ c κs. search needs) (λ c. search needs) (λ c. search needs)
     (λ c. search needs) (λ c. search needs))

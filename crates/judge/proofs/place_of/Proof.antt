@@ -15,5 +15,5 @@ returns c = refl
 pub place-of-spec : {M : Type 1} → statement M
 place-of-spec =
     tie.close
-    (tie.spec (λ c. omega (arith, area-fit _ _ (c .pre .0))) (λ c. area-pos _ _ (c .pre .0 .h-low) (c .pre .0 .w-low))
-    (λ c. omega (arith, layer-most (c .args .x) (c .args .h * c .args .w))) (λ c. search needs) (λ c. search needs) (λ c. search needs) returns)
+    (tie.spec (λ c. omega (arith, area-fit _ _ (c .pre .0))) (λ c. area-pos _ _ (c .pre .0 .h-low) (c .pre .0 .w-low)) (λ c. omega (arith, layer-most (c .args .x) (c .args .h * c .args .w)))
+    (λ c. search needs) (λ c. search needs) (λ c. search needs) returns)

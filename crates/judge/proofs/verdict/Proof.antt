@@ -6,28 +6,10 @@ use borrow.Author.Needs.{needs}
 use Rattle.judge.proofs.verdict.Statement.{statement}
 use Rattle.judge.proofs.verdict.Tie as tie
 
-mul-area : tie.Need-mul-area
-mul-area c =
-    let b3 = c .before .before .before in
-    omega (arith, area-most (b3 .args .s .w) (b3 .args .s .h) (b3 .pre .0 .w-high) (b3 .pre .0 .h-high))
-
-mul-pixels : tie.Need-mul-pixels
-mul-pixels c = omega (arith, pixels-most (c .before .before .before .args .s) (c .before .before .before .pre .0))
-
-mul-pairs : tie.Need-mul-pairs
-mul-pairs c =
-    let b3 = c .before .before .before in
-    omega (arith, rings-most (b3 .args .s) (b3 .pre .0), rings-is (b3 .args .s))
-
 overlap-at-requires : tie.Need-overlap-at-requires
 overlap-at-requires c κs =
     let b3 = c .before .before .before in let pre = b3 .pre in
     ((plane-sized (b3 .args .s) (pre .0), pre .0 .n-high), (stack-length (b3 .args .s) _ (pre .1 .0), stack-length (b3 .args .s) _ (pre .1 .1 .0)))
-
-place-of-requires : tie.Need-place-of-requires
-place-of-requires c κs =
-    let b5 = c .before .before .before .before .before in
-    (plane-sized (b5 .args .s) (b5 .pre .0), (omega (arith, pixels-most (b5 .args .s) (b5 .pre .0), c .if1 .taken), omega arith))
 
 returns : tie.Need-returns
 returns c =
@@ -97,6 +79,8 @@ returns-5 c =
 pub verdict-spec : {M : Type 1} → statement M
 verdict-spec =
     tie.close
-    (tie.spec mul-area mul-pixels (λ c. search needs) mul-pairs overlap-at-requires place-of-requires returns
-    (λ c κs. c .before .before .before .before .before .pre .0) sure-requires returns-2 first-requires place-of-requires-2 returns-3 first-requires-2
-    place-of-requires-3 returns-4 returns-5)
+    (tie.spec (λ c. let b3 = c .before .before .before in omega (arith, area-most (b3 .args .s .w) (b3 .args .s .h) (b3 .pre .0 .w-high) (b3 .pre .0 .h-high)))
+    (λ c. omega (arith, pixels-most (c .before .before .before .args .s) (c .before .before .before .pre .0))) (λ c. search needs)
+    (λ c. let b3 = c .before .before .before in omega (arith, rings-most (b3 .args .s) (b3 .pre .0), rings-is (b3 .args .s))) overlap-at-requires
+    (λ c κs. let b5 = c .before .before .before .before .before in (plane-sized (b5 .args .s) (b5 .pre .0), (omega (arith, pixels-most (b5 .args .s) (b5 .pre .0), c .if1 .taken), omega arith)))
+    returns (λ c κs. c .before .before .before .before .before .pre .0) sure-requires returns-2 first-requires place-of-requires-2 returns-3 first-requires-2 place-of-requires-3 returns-4 returns-5)

@@ -16,9 +16,6 @@ returns : tie.Need-returns
 unfolding bothCases
 returns c = stops-before _ _ (stack-numbered _ _ _ _ _) (c .before .stack-refusal .ensures) (c .if1 .taken)
 
-rows-of-requires : tie.Need-rows-of-requires
-rows-of-requires c κs = stack-exactly _ _ _ _ _ .0 (sym (c .before .stack-refusal .ensures) ∙ c .if1 .left) .settings
-
 padding-refusal-requires : tie.Need-padding-refusal-requires
 padding-refusal-requires c κs =
     let b3 = c .before .before .before in let b6 = b3 .before .before .before in
@@ -38,4 +35,5 @@ returns-2 c =
 pub both-refusal-spec : {M : Type 1} → statement M
 both-refusal-spec =
     tie.close
-    (tie.spec (λ c κs. search needs) returns rows-of-requires (λ c κs. search needs) padding-refusal-requires returns-2)
+    (tie.spec (λ c κs. search needs) returns (λ c κs. stack-exactly _ _ _ _ _ .0 (sym (c .before .stack-refusal .ensures) ∙ c .if1 .left) .settings) (λ c κs. search needs) padding-refusal-requires
+    returns-2)

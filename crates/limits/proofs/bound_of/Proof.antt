@@ -4,11 +4,6 @@ use Rattle.limits.proofs.Settings.{bound-is, bound-fits}
 use Rattle.limits.proofs.bound_of.Statement.{statement}
 use Rattle.limits.proofs.bound_of.Tie as tie
 
-mul-t5 : tie.Need-mul-t5
-mul-t5 c =
-    let b4 = c .before .before .before .before in
-    omega (arith, bound-fits (b4 .args .s) (c .before .reach-of .result) (b4 .pre) (c .before .reach-of .ensures))
-
 returns : tie.Need-returns
 returns c =
     let A = c .before .before .before .before .args in
@@ -18,4 +13,5 @@ returns c =
 pub bound-of-spec : {M : Type 1} → statement M
 bound-of-spec =
     tie.close
-    (tie.spec (λ c κs. search needs) mul-t5 returns)
+    (tie.spec (λ c κs. search needs)
+    (λ c. let b4 = c .before .before .before .before in omega (arith, bound-fits (b4 .args .s) (c .before .reach-of .result) (b4 .pre) (c .before .reach-of .ensures))) returns)

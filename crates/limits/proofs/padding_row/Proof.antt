@@ -88,5 +88,5 @@ returns-3 c =
 pub padding-row-spec : {M : Type 1} → statement M
 padding-row-spec =
     tie.close
-    (tie.spec Inv-loop μ-loop (λ c κs. search needs) (λ c. search needs) sub-pad returns pad-mask-requires sub-last loop-holds mul-if2 add-if2
-    shared-slice-read-if2 returns-2 (λ c. search needs) (λ c. search needs) loop-again returns-3)
+    (tie.spec Inv-loop μ-loop (λ c κs. search needs) (λ c. search needs) sub-pad returns pad-mask-requires sub-last loop-holds mul-if2 add-if2 shared-slice-read-if2 returns-2 (λ c. search needs)
+    (λ c. search needs) loop-again returns-3)

@@ -6,9 +6,6 @@ use Rattle.limits.proofs.reach.Tie as tie
 returns : tie.Need-returns
 returns c = record { answer = reach-no (c .before .before .args .pitch) (c .before .before .args .overhang) (c .before .reach-refusal .result) (c .before .reach-refusal .ensures) (c .if1 .taken) }
 
-reach-of-requires : tie.Need-reach-of-requires
-reach-of-requires c κs = pitch-good (c .before .before .args .pitch) (c .before .before .args .overhang) (c .before .reach-refusal .result) (c .before .reach-refusal .ensures) (c .if1 .left)
-
 returns-2 : tie.Need-returns-2
 returns-2 c =
     let b3 = c .before .before .before in
@@ -20,4 +17,5 @@ returns-2 c =
 pub reach-spec : {M : Type 1} → statement M
 reach-spec =
     tie.close
-    (tie.spec (λ c κs. search needs) returns reach-of-requires returns-2)
+    (tie.spec (λ c κs. search needs) returns
+    (λ c κs. pitch-good (c .before .before .args .pitch) (c .before .before .args .overhang) (c .before .reach-refusal .result) (c .before .reach-refusal .ensures) (c .if1 .left)) returns-2)

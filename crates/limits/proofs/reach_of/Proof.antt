@@ -5,9 +5,6 @@ use borrow.Author.Needs.{needs}
 use Rattle.limits.proofs.reach_of.Statement.{statement}
 use Rattle.limits.proofs.reach_of.Tie as tie
 
-cast-t4 : tie.Need-cast-t4
-cast-t4 c = omega (arith, div-le-self (c .before .before .args .overhang .0) (c .before .before .args .pitch .0))
-
 returns : tie.Need-returns
 unfolding rule.reachOf
 returns c = cc
@@ -15,4 +12,4 @@ returns c = cc
 pub reach-of-spec : {M : Type 1} → statement M
 reach-of-spec =
     tie.close
-    (tie.spec (λ c. search needs) cast-t4 returns)
+    (tie.spec (λ c. search needs) (λ c. omega (arith, div-le-self (c .before .before .args .overhang .0) (c .before .before .args .pitch .0))) returns)

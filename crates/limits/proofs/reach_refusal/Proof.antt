@@ -10,9 +10,6 @@ returns : tie.Need-returns
 unfolding reachCases
 returns c = simp (sym (c .before .settable .ensures) ∙ not-true _ (c .if1 .taken))
 
-reach-of-requires : tie.Need-reach-of-requires
-reach-of-requires c κs = pitch-some (c .before .before .args .pitch) (c .before .before .args .overhang) (sym (c .before .settable .ensures) ∙ not-false _ (c .if1 .left))
-
 returns-2 : tie.Need-returns-2
 returns-2 c =
     let b3 = c .before .before .before in let b4 = b3 .before in let b5 = b4 .before in
@@ -28,4 +25,5 @@ returns-3 c =
 pub reach-refusal-spec : {M : Type 1} → statement M
 reach-refusal-spec =
     tie.close
-    (tie.spec (λ c κs. search needs) returns reach-of-requires returns-2 returns-3)
+    (tie.spec (λ c κs. search needs) returns
+    (λ c κs. pitch-some (c .before .before .args .pitch) (c .before .before .args .overhang) (sym (c .before .settable .ensures) ∙ not-false _ (c .if1 .left))) returns-2 returns-3)

@@ -5,15 +5,6 @@ use native.Mathlib.Omega.{arith}
 use Rattle.limits.proofs.rings_in.Statement.{statement}
 use Rattle.limits.proofs.rings_in.Tie as tie
 
-sub-result : tie.Need-sub-result
-sub-result c = omega (arith, ranged (c .before .args .s) (c .before .pre) .n-low)
-
-mul-result : tie.Need-mul-result
-mul-result c =
-    let A = c .before .before .args in
-    let r = ranged (A .s) (c .before .before .pre) in
-    omega (arith, area-most (A .s .w) (A .s .h) (r .w-high) (r .h-high))
-
 mul-result-2 : tie.Need-mul-result-2
 unfolding ringsIn
 mul-result-2 c = omega (arith, rings-most (c .before .before .args .s) (ranged (c .before .before .args .s) (c .before .before .pre)))
@@ -25,4 +16,5 @@ returns c = (refl, rings-most (c .before .before .args .s) (ranged (c .before .b
 pub rings-in-spec : {M : Type 1} → statement M
 rings-in-spec =
     tie.close
-    (tie.spec sub-result mul-result mul-result-2 returns)
+    (tie.spec (λ c. omega (arith, ranged (c .before .args .s) (c .before .pre) .n-low))
+    (λ c. let A = c .before .before .args in let r = ranged (A .s) (c .before .before .pre) in omega (arith, area-most (A .s .w) (A .s .h) (r .w-high) (r .h-high))) mul-result-2 returns)

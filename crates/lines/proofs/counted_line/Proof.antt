@@ -28,5 +28,4 @@ counted-line-spec =
     tie.close
     (tie.spec (λ c κs. let b4 = c .before .before .before .before in part-layer (b4 .pre .0) (b4 .pre .1 .0))
     (λ c κs. let b5 = c .before .before .before .before .before in support-layer (b5 .pre .0) (b5 .pre .1 .0))
-    (λ c κs. let b6 = c .before .before .before .before .before .before in (b6 .pre .1 .0, pair-rings (b6 .pre .0) (b6 .args .i)))
-    layer-line-requires (λ c. search needs) returns)
+    (λ c κs. let b6 = c .before .before .before .before .before .before in (b6 .pre .1 .0, pair-rings (b6 .pre .0) (b6 .args .i))) layer-line-requires (λ c. search needs) returns)

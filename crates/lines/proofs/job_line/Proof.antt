@@ -4,9 +4,6 @@ use borrow.Author.Needs.{needs}
 use Rattle.lines.proofs.job_line.Statement.{statement}
 use Rattle.lines.proofs.job_line.Tie as tie
 
-first-line-requires : tie.Need-first-line-requires
-first-line-requires c κs = omega (arith, job-long (c .before .before .before .before .before .args .s) _ (c .before .reach-of .ensures))
-
 returns : tie.Need-returns
 returns c =
     let b4 = c .before .before .before .before in
@@ -15,4 +12,4 @@ returns c =
 pub job-line-spec : {M : Type 1} → statement M
 job-line-spec =
     tie.close
-    (tie.spec (λ c κs. search needs) first-line-requires (λ c. search needs) returns)
+    (tie.spec (λ c κs. search needs) (λ c κs. omega (arith, job-long (c .before .before .before .before .before .args .s) _ (c .before .reach-of .ensures))) (λ c. search needs) returns)

@@ -5,11 +5,6 @@ use borrow.Author.Needs.{needs}
 use Rattle.lines.proofs.job_lines.Statement.{statement}
 use Rattle.lines.proofs.job_lines.Tie as tie
 
-job-line-requires : tie.Need-job-line-requires
-job-line-requires c κs =
-    let b5 = c .before .before .before .before .before in
-    let r = in-range (b5 .pre .0) in let hp = r .pitch-low in (omega arith, omega (arith, job-short (b5 .args .s) r, b5 .pre .1))
-
 layer-lines-requires : tie.Need-layer-lines-requires
 layer-lines-requires c κs =
     let b3 = c .before .before .before in let b9 = b3 .before .before .before .before .before .before in
@@ -23,4 +18,6 @@ returns c =
 pub job-lines-spec : {M : Type 1} → statement M
 job-lines-spec =
     tie.close
-    (tie.spec job-line-requires layer-lines-requires (λ c. search needs) returns)
+    (tie.spec
+    (λ c κs. let b5 = c .before .before .before .before .before in let r = in-range (b5 .pre .0) in let hp = r .pitch-low in (omega arith, omega (arith, job-short (b5 .args .s) r, b5 .pre .1)))
+    layer-lines-requires (λ c. search needs) returns)

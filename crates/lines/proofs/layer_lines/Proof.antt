@@ -25,6 +25,5 @@ loop-again c =
 pub layer-lines-spec : {M : Type 1} → statement M
 layer-lines-spec =
     tie.close
-    (tie.spec Inv-loop μ-loop (λ c. (omega arith, no-lines-yet (omega arith)))
-    (λ c. omega arith) (λ c. omega arith) counted-line-requires (λ c. search needs) (λ c. search needs) loop-again
+    (tie.spec Inv-loop μ-loop (λ c. (omega arith, no-lines-yet (omega arith))) (λ c. omega arith) (λ c. omega arith) counted-line-requires (λ c. search needs) (λ c. search needs) loop-again
     (λ c. wrote-long (c .before .loop .inv .1 .wrote)) (λ c. going-end (c .before .loop .inv .1) (c .before .loop .inv .0) (c .loop-test .left)))

@@ -7,11 +7,6 @@ use borrow.Author.Needs.{needs}
 use Rattle.lines.proofs.put_spaced.Statement.{statement}
 use Rattle.lines.proofs.put_spaced.Tie as tie
 
-same-length : tie.Need-same-length
-same-length c =
-    let b2 = c .before .before in let b5 = b2 .before .before .before in
-    b2 .put-decimal .kept .0 ∙ length-set (b5 .args .out .now) (b5 .args .at) 32
-
 returns : tie.Need-returns
 unfolding spaced
 returns c =
@@ -22,4 +17,5 @@ pub put-spaced-spec : {M : Type 1} → statement M
 unfolding spaced
 put-spaced-spec =
     tie.close
-    (tie.spec (λ c. search needs) (λ c. search needs) (λ c κs. simp length-set (omega arith)) same-length returns)
+    (tie.spec (λ c. search needs) (λ c. search needs) (λ c κs. simp length-set (omega arith))
+    (λ c. let b2 = c .before .before in let b5 = b2 .before .before .before in b2 .put-decimal .kept .0 ∙ length-set (b5 .args .out .now) (b5 .args .at) 32) returns)

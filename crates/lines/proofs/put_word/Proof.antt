@@ -17,8 +17,7 @@ abbrev μ-loop : tie.MeasureT-loop
 pub put-word-spec : {M : Type 1} → statement M
 put-word-spec =
     tie.close
-    (tie.spec Inv-loop μ-loop (λ c. (omega arith, record { ends = omega arith; holds = over-none (c .args .out .now) (c .args .at); fits = omega arith }))
-    (λ c. search needs) (λ c. omega arith) (λ c. omega (arith, wrote-long (c .before .before .loop .inv .1))) (λ c. search needs) (λ c. search needs)
-    (λ c. let b2 = c .before .before in (omega arith, word-more (b2 .before .args .word .now) (b2 .loop .i) (c .before .loop-test .taken) (b2 .before .pre) (b2 .loop .inv .1)))
-    (λ c. omega arith) (λ c. wrote-long (c .before .loop .inv .1))
-    (λ c. let b1 = c .before in word-done (b1 .loop .i) (c .loop-test .left) (b1 .loop .inv .0) (b1 .loop .inv .1)))
+    (tie.spec Inv-loop μ-loop (λ c. (omega arith, record { ends = omega arith; holds = over-none (c .args .out .now) (c .args .at); fits = omega arith })) (λ c. search needs) (λ c. omega arith)
+    (λ c. omega (arith, wrote-long (c .before .before .loop .inv .1))) (λ c. search needs) (λ c. search needs)
+    (λ c. let b2 = c .before .before in (omega arith, word-more (b2 .before .args .word .now) (b2 .loop .i) (c .before .loop-test .taken) (b2 .before .pre) (b2 .loop .inv .1))) (λ c. omega arith)
+    (λ c. wrote-long (c .before .loop .inv .1)) (λ c. let b1 = c .before in word-done (b1 .loop .i) (c .loop-test .left) (b1 .loop .inv .0) (b1 .loop .inv .1)))

@@ -17,5 +17,4 @@ refused-line-spec =
     tie.close
     (tie.spec (λ c. search needs) (λ c κs. omega (arith, refused-long (c .before .before .before .args .k)))
     (λ c κs. omega (arith, refused-long (c .before .before .before .before .before .before .before .args .k)))
-    (λ c κs. omega (arith, refused-long (c .before .before .before .before .before .before .before .before .before .before .before .args .k)))
-    (λ c. search needs) returns)
+    (λ c κs. omega (arith, refused-long (c .before .before .before .before .before .before .before .before .before .before .before .args .k))) (λ c. search needs) returns)

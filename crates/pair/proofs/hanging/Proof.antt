@@ -100,5 +100,5 @@ returns c =
 pub hanging-spec : {M : Type 1} → statement M
 hanging-spec =
     tie.close
-    (tie.spec (λ c κs. search needs) rings-requires excuse-requires empty-requires (λ c. search needs) (λ c. search needs) same-length-3
-    (λ c. search needs) (λ c. search needs) (λ c. search needs) same-length-7 (λ c. search needs) same-length-9 returns)
+    (tie.spec (λ c κs. search needs) rings-requires excuse-requires empty-requires (λ c. search needs) (λ c. search needs) same-length-3 (λ c. search needs) (λ c. search needs) (λ c. search needs)
+    same-length-7 (λ c. search needs) same-length-9 returns)

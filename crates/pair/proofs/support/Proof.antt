@@ -21,34 +21,6 @@ abbrev μ-loop : tie.MeasureT-loop
 loop-holds : tie.Need-loop-holds Inv-loop μ-loop
 loop-holds c = (omega arith, filling-none _ _ _, λ e k x m lm. absurd (omega arith))
 
-shared-slice-read-all : tie.Need-shared-slice-read-all Inv-loop μ-loop
-shared-slice-read-all c = omega (arith, c .before .loop-test .taken, c .before .before .before .pre, c .before .before .loop .inv .1 .long)
-
-shared-slice-read-all-2 : tie.Need-shared-slice-read-all-2 Inv-loop μ-loop
-shared-slice-read-all-2 c =
-    let b3 = c .before .before .before in let b4 = b3 .before in
-    omega (arith, c .before .before .loop-test .taken, b4 .pre, b3 .loop .inv .1 .long)
-
-shared-slice-read-out : tie.Need-shared-slice-read-out Inv-loop μ-loop
-shared-slice-read-out c =
-    let b3 = c .before .before .before in let b4 = b3 .before in let b5 = b4 .before in
-    omega (arith, b3 .loop-test .taken, b5 .pre, b4 .loop .inv .1 .long)
-
-shared-slice-read-out-2 : tie.Need-shared-slice-read-out-2 Inv-loop μ-loop
-shared-slice-read-out-2 c =
-    let b4 = c .before .before .before .before in let b5 = b4 .before in let b6 = b5 .before in
-    omega (arith, b4 .loop-test .taken, b6 .pre, b5 .loop .inv .1 .long)
-
-shared-slice-read-out-3 : tie.Need-shared-slice-read-out-3 Inv-loop μ-loop
-shared-slice-read-out-3 c =
-    let b5 = c .before .before .before .before .before in let b6 = b5 .before in let b7 = b6 .before in
-    omega (arith, b5 .loop-test .taken, b7 .pre, b6 .loop .inv .1 .long)
-
-loop-less : tie.Need-loop-less Inv-loop μ-loop
-loop-less c =
-    let b5 = c .before .before .before .before .before in let b6 = b5 .before in
-    omega (arith, b5 .loop-test .taken, b6 .loop .inv .1 .long)
-
 loop-again : tie.Need-loop-again Inv-loop μ-loop
 loop-again c =
     let b3 = c .before .before .before in let b5 = b3 .before .before in let b6 = b5 .before in let b7 = b6 .before in
@@ -75,5 +47,10 @@ returns c = let A = c .before .before .args in
 pub support-spec : {M : Type 1} → statement M
 support-spec =
     tie.close
-    (tie.spec Inv-loop μ-loop loop-holds shared-slice-read-all shared-slice-read-all-2 shared-slice-read-out shared-slice-read-out-2
-    shared-slice-read-out-3 (λ c. search needs) (λ c. search needs) loop-less loop-again (λ c. c .before .loop .inv .1 .long) returns)
+    (tie.spec Inv-loop μ-loop loop-holds (λ c. omega (arith, c .before .loop-test .taken, c .before .before .before .pre, c .before .before .loop .inv .1 .long))
+    (λ c. let b3 = c .before .before .before in let b4 = b3 .before in omega (arith, c .before .before .loop-test .taken, b4 .pre, b3 .loop .inv .1 .long))
+    (λ c. let b3 = c .before .before .before in let b4 = b3 .before in let b5 = b4 .before in omega (arith, b3 .loop-test .taken, b5 .pre, b4 .loop .inv .1 .long))
+    (λ c. let b4 = c .before .before .before .before in let b5 = b4 .before in let b6 = b5 .before in omega (arith, b4 .loop-test .taken, b6 .pre, b5 .loop .inv .1 .long))
+    (λ c. let b5 = c .before .before .before .before .before in let b6 = b5 .before in let b7 = b6 .before in omega (arith, b5 .loop-test .taken, b7 .pre, b6 .loop .inv .1 .long)) (λ c. search needs)
+    (λ c. search needs) (λ c. let b5 = c .before .before .before .before .before in let b6 = b5 .before in omega (arith, b5 .loop-test .taken, b6 .loop .inv .1 .long)) loop-again
+    (λ c. c .before .loop .inv .1 .long) returns)

@@ -14,9 +14,6 @@ Inv-loop ring₀ i₀ ring i =
 abbrev μ-loop : tie.MeasureT-loop
 μ-loop ring₀ i₀ ring i = length ring₀ - i
 
-loop-less : tie.Need-loop-less Inv-loop μ-loop
-loop-less c = let L = c .before .loop in omega (arith, c .loop-test .taken, L .inv .0)
-
 loop-again : tie.Need-loop-again Inv-loop μ-loop
 loop-again c = let L = c .before .loop in (
   length-set (L .ring) (L .i) 0
@@ -32,4 +29,4 @@ pub zero-spec : {M : Type 1} → statement M
 zero-spec =
     tie.close
     (tie.spec Inv-loop μ-loop (λ c. (refl, omega arith, λ k l. absurd (omega arith))) (λ c. search needs) (λ c. search needs) (λ c. search needs)
-    loop-less loop-again (λ c. c .before .loop .inv .0) returns)
+    (λ c. let L = c .before .loop in omega (arith, c .loop-test .taken, L .inv .0)) loop-again (λ c. c .before .loop .inv .0) returns)

@@ -18,5 +18,4 @@ loop-again c = (omega arith, c .before .before .fill .kept .0 ∙ c .before .bef
 pub fill-half-spec : {M : Type 1} → statement M
 fill-half-spec =
     tie.close
-    (tie.spec Inv-loop μ-loop (λ c. search needs) (λ c. search needs) (λ c κs. search needs) (λ c. search needs) (λ c. search needs) loop-again
-    (λ c. c .before .loop .inv .1) (λ c. search needs))
+    (tie.spec Inv-loop μ-loop (λ c. search needs) (λ c. search needs) (λ c κs. search needs) (λ c. search needs) (λ c. search needs) loop-again (λ c. c .before .loop .inv .1) (λ c. search needs))

@@ -7,14 +7,9 @@ use borrow.Author.Needs.{needs}
 use Rattle.report.proofs.main.Statement.{statement}
 use Rattle.report.proofs.main.Tie as tie
 
-array-share-prefix-out : tie.Need-array-share-prefix-out
-array-share-prefix-out c = report-fits _ _ _ _ _ (c .report .ensures) (length-replicate {A = ℕ} 16384 0)
-
-slice-aggregate-write-all : tie.Need-slice-aggregate-write-all
-slice-aggregate-write-all c = sym (length-take-le _ _ (report-fits _ _ _ _ _ (c .before .report .ensures) (length-replicate {A = ℕ} 16384 0)))
-
 pub main-spec : {M : Type 1} → statement M
 main-spec =
     tie.close
-    (tie.spec (λ c. search needs) (λ c κs. search needs) (λ c. search needs) (λ c κs. search needs) (λ c. search needs) (λ c. search needs)
-    (λ c κs. search needs) array-share-prefix-out slice-aggregate-write-all (λ c κs. search needs) (λ c. search needs))
+    (tie.spec (λ c. search needs) (λ c κs. search needs) (λ c. search needs) (λ c κs. search needs) (λ c. search needs) (λ c. search needs) (λ c κs. search needs)
+    (λ c. report-fits _ _ _ _ _ (c .report .ensures) (length-replicate {A = ℕ} 16384 0))
+    (λ c. sym (length-take-le _ _ (report-fits _ _ _ _ _ (c .before .report .ensures) (length-replicate {A = ℕ} 16384 0)))) (λ c κs. search needs) (λ c. search needs))

@@ -59,6 +59,5 @@ returns-2 c =
 pub farther-spec : {M : Type 1} → statement M
 farther-spec =
     tie.close
-    (tie.spec (λ c κs. search needs) (λ c κs. search needs) waves-requires (λ c. search needs) (λ c. search needs) (λ c. search needs) (λ c. search needs)
-    (λ c. search needs) (λ c. search needs) returns finish-requires (λ c. search needs) (λ c. search needs) (λ c. search needs) (λ c. search needs)
-    (λ c. search needs) same-length-12 returns-2)
+    (tie.spec (λ c κs. search needs) (λ c κs. search needs) waves-requires (λ c. search needs) (λ c. search needs) (λ c. search needs) (λ c. search needs) (λ c. search needs) (λ c. search needs)
+    returns finish-requires (λ c. search needs) (λ c. search needs) (λ c. search needs) (λ c. search needs) (λ c. search needs) same-length-12 returns-2)

@@ -110,6 +110,5 @@ returns-3 c =
 pub waves-first-spec : {M : Type 1} → statement M
 waves-first-spec =
     tie.close
-    (tie.spec (λ c κs. search needs) (λ c. search needs) (λ c. search needs) (λ c. search needs) (λ c. search needs) returns waves-requires
-    (λ c. search needs) (λ c. search needs) (λ c. search needs) (λ c. search needs) (λ c. search needs) returns-2 farther-requires same-length-10
-    same-length-11 (λ c. search needs) same-length-13 same-length-14 (λ c. search needs) returns-3)
+    (tie.spec (λ c κs. search needs) (λ c. search needs) (λ c. search needs) (λ c. search needs) (λ c. search needs) returns waves-requires (λ c. search needs) (λ c. search needs) (λ c. search needs)
+    (λ c. search needs) (λ c. search needs) returns-2 farther-requires same-length-10 same-length-11 (λ c. search needs) same-length-13 same-length-14 (λ c. search needs) returns-3)

@@ -12,20 +12,10 @@ Inv-loop q out₀ d₀ out d = HalvesTo q d out × (d ≤ 33)
 abbrev μ-loop : tie.MeasureT-loop
 μ-loop q out₀ d₀ out d = 33 - d
 
-half-width-requires : tie.Need-half-width-requires Inv-loop μ-loop
-half-width-requires c κs =
-    let b3 = c .before .before .before in
-    (square-small _ _ (b3 .pre .0) (c .loop-test .taken), (c .loop-test .taken, b3 .pre .0))
-
 slice-write-out : tie.Need-slice-write-out Inv-loop μ-loop
 slice-write-out c =
     let b4 = c .before .before .before .before in
     omega (arith, c .before .before .loop .inv .0 .long, square-small (b4 .args .q) (c .before .before .loop .d) (b4 .pre .0) (c .before .loop-test .taken))
-
-loop-less : tie.Need-loop-less Inv-loop μ-loop
-loop-less c =
-    let b4 = c .before .before .before .before in
-    omega (arith, square-small (b4 .args .q) (c .before .before .loop .d) (b4 .pre .0) (c .before .loop-test .taken))
 
 loop-again : tie.Need-loop-again Inv-loop μ-loop
 loop-again c =
@@ -34,9 +24,6 @@ loop-again c =
           (c .half-width .ensures) (b2 .loop .inv .0),
       omega (arith, square-small (b4 .args .q) (b2 .loop .d) (b4 .pre .0) (c .before .loop-test .taken)),
     )
-
-same-length : tie.Need-same-length Inv-loop μ-loop
-same-length c = c .before .loop .inv .0 .long ∙ sym (c .before .before .before .pre .1)
 
 returns : tie.Need-returns Inv-loop μ-loop
 returns c =
@@ -47,6 +34,8 @@ returns c =
 pub halves-spec : {M : Type 1} → statement M
 halves-spec =
     tie.close
-    (tie.spec Inv-loop μ-loop (λ c. (halves-none _ _ (c .before .pre .1), omega arith))
-    (λ c. omega (arith, mul-le-mul (c .loop .inv .1) (c .loop .inv .1))) half-width-requires (λ c. omega (arith, c .before .before .loop .inv .1))
-    slice-write-out (λ c. omega (arith, c .before .before .loop .inv .1)) loop-less loop-again same-length returns)
+    (tie.spec Inv-loop μ-loop (λ c. (halves-none _ _ (c .before .pre .1), omega arith)) (λ c. omega (arith, mul-le-mul (c .loop .inv .1) (c .loop .inv .1)))
+    (λ c κs. let b3 = c .before .before .before in (square-small _ _ (b3 .pre .0) (c .loop-test .taken), (c .loop-test .taken, b3 .pre .0))) (λ c. omega (arith, c .before .before .loop .inv .1))
+    slice-write-out (λ c. omega (arith, c .before .before .loop .inv .1))
+    (λ c. let b4 = c .before .before .before .before in omega (arith, square-small (b4 .args .q) (c .before .before .loop .d) (b4 .pre .0) (c .before .loop-test .taken))) loop-again
+    (λ c. c .before .loop .inv .0 .long ∙ sym (c .before .before .before .pre .1)) returns)

@@ -7,26 +7,6 @@ use Rattle.places.specs.Rows.{area-fit, fit-of}
 use Rattle.chains.proofs.leaning.lends.Statement.{statement}
 use Rattle.chains.proofs.leaning.lends.Tie as tie
 
-mul-if1 : tie.Need-mul-if1
-mul-if1 c =
-    let b3 = c .before .before .before in
-    omega (arith, in-plane _ _ _ _ (b3 .pre .0 .1 .1 .0) (b3 .pre .0 .1 .1 .1), area-fit _ _ (b3 .pre .0 .1 .0))
-
-add-if1 : tie.Need-add-if1
-add-if1 c =
-    let b3 = c .before .before .before in
-    omega (arith, in-plane _ _ _ _ (b3 .pre .0 .1 .1 .0) (b3 .pre .0 .1 .1 .1), area-fit _ _ (b3 .pre .0 .1 .0))
-
-mul-if1-2 : tie.Need-mul-if1-2
-mul-if1-2 c =
-    let b3 = c .before .before .before in
-    omega (arith, in-plane _ _ _ _ (b3 .pre .0 .1 .1 .0) (b3 .pre .0 .1 .1 .1), area-fit _ _ (b3 .pre .0 .1 .0))
-
-shared-slice-read-if1 : tie.Need-shared-slice-read-if1
-shared-slice-read-if1 c =
-    let b4 = c .before .before .before .before in
-    omega (arith, in-plane _ _ _ _ (b4 .pre .0 .1 .1 .0) (b4 .pre .0 .1 .1 .1))
-
 returns : tie.Need-returns
 returns c =
     let b5 = c .before .before .before .before .before in let args = b5 .args in
@@ -59,5 +39,8 @@ returns-3 c =
 pub lends-spec : {M : Type 1} → statement M
 lends-spec =
     tie.close
-    (tie.spec mul-if1 add-if1 mul-if1-2 shared-slice-read-if1 (λ c. search needs) returns returns-2 (λ c κs. search needs) mul-seed-at seed-at-requires
-    returns-3)
+    (tie.spec (λ c. let b3 = c .before .before .before in omega (arith, in-plane _ _ _ _ (b3 .pre .0 .1 .1 .0) (b3 .pre .0 .1 .1 .1), area-fit _ _ (b3 .pre .0 .1 .0)))
+    (λ c. let b3 = c .before .before .before in omega (arith, in-plane _ _ _ _ (b3 .pre .0 .1 .1 .0) (b3 .pre .0 .1 .1 .1), area-fit _ _ (b3 .pre .0 .1 .0)))
+    (λ c. let b3 = c .before .before .before in omega (arith, in-plane _ _ _ _ (b3 .pre .0 .1 .1 .0) (b3 .pre .0 .1 .1 .1), area-fit _ _ (b3 .pre .0 .1 .0)))
+    (λ c. let b4 = c .before .before .before .before in omega (arith, in-plane _ _ _ _ (b4 .pre .0 .1 .1 .0) (b4 .pre .0 .1 .1 .1))) (λ c. search needs) returns returns-2 (λ c κs. search needs)
+    mul-seed-at seed-at-requires returns-3)

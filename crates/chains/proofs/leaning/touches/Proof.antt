@@ -22,9 +22,6 @@ Inv-rows low up rings w h r c k top bottom left right found₀ y₀ found y = (f
 abbrev μ-rows : tie.MeasureT-rows
 μ-rows low up rings w h r c k top bottom left right found₀ y₀ found y = bottom - y
 
-rows-holds : tie.Need-rows-holds Inv-loop μ-loop Inv-rows μ-rows
-rows-holds c = (refl, omega arith, omega arith, λ n l b d m lm a e. absurd (omega arith))
-
 loop-holds : tie.Need-loop-holds Inv-loop μ-loop Inv-rows μ-rows
 loop-holds c = (c .before .rows .inv .0, omega arith, omega arith, λ n l b. absurd (omega arith))
 
@@ -70,6 +67,6 @@ returns-2 c =
 pub touches-spec : {M : Type 1} → statement M
 touches-spec =
     tie.close
-    (tie.spec Inv-loop μ-loop Inv-rows μ-rows (λ c κs. search needs) (λ c. search needs) (λ c κs. search needs) (λ c κs. search needs) (λ c. search needs)
-    (λ c κs. search needs) rows-holds loop-holds lends-requires (λ c. search needs) (λ c. search needs) loop-again (λ c. search needs) (λ c. search needs)
-    rows-again returns returns-2)
+    (tie.spec Inv-loop μ-loop Inv-rows μ-rows (λ c κs. search needs) (λ c. search needs) (λ c κs. search needs) (λ c κs. search needs) (λ c. search needs) (λ c κs. search needs)
+    (λ c. (refl, omega arith, omega arith, λ n l b d m lm a e. absurd (omega arith))) loop-holds lends-requires (λ c. search needs) (λ c. search needs) loop-again (λ c. search needs)
+    (λ c. search needs) rows-again returns returns-2)

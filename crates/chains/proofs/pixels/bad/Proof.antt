@@ -99,5 +99,5 @@ returns-5 c =
 pub bad-spec : {M : Type 1} → statement M
 bad-spec =
     tie.close
-    (tie.spec mul-k add-k mul-k-2 shared-slice-read-k returns (λ c κs. search needs) mul-at pixel-at-requires returns-2 pixel-at-requires-2 returns-3
-    touches-requires returns-4 column-at-requires returns-5)
+    (tie.spec mul-k add-k mul-k-2 shared-slice-read-k returns (λ c κs. search needs) mul-at pixel-at-requires returns-2 pixel-at-requires-2 returns-3 touches-requires returns-4 column-at-requires
+    returns-5)

@@ -100,5 +100,5 @@ returns-5 c =
 pub unheld-spec : {M : Type 1} → statement M
 unheld-spec =
     tie.close
-    (tie.spec mul-if1 add-if1 mul-if1-2 shared-slice-read-if1 returns (λ c κs. search needs) mul-at pixel-at-requires returns-2 pixel-at-requires-2
-    returns-3 pixel-at-requires-3 returns-4 pixel-at-requires-4 returns-5)
+    (tie.spec mul-if1 add-if1 mul-if1-2 shared-slice-read-if1 returns (λ c κs. search needs) mul-at pixel-at-requires returns-2 pixel-at-requires-2 returns-3 pixel-at-requires-3 returns-4
+    pixel-at-requires-4 returns-5)

@@ -18,11 +18,6 @@ Inv-loop low up below above rings close w h r ringed c₀ c = (c ≤ w)
 abbrev μ-loop : tie.MeasureT-loop
 μ-loop low up below above rings close w h r ringed c₀ c = w - c
 
-amiss-requires : tie.Need-amiss-requires Inv-loop μ-loop
-amiss-requires c κs =
-    let b8 = c .before .before .before .before .before .before .before .before in
-    (((b8 .pre .0 .0), (b8 .pre .0 .1, omega arith)), b8 .pre .1)
-
 returns : tie.Need-returns Inv-loop μ-loop
 returns c =
     let b3 = c .before .before .before in let b10 = b3 .before .before .before .before .before .before .before in
@@ -45,5 +40,6 @@ returns-2 c =
 pub in-columns-spec : {M : Type 1} → statement M
 in-columns-spec =
     tie.close
-    (tie.spec Inv-loop μ-loop (λ c. (omega arith, λ q n y z l. absurd (omega arith))) amiss-requires returns (λ c. search needs) (λ c. search needs)
-    loop-again returns-2)
+    (tie.spec Inv-loop μ-loop (λ c. (omega arith, λ q n y z l. absurd (omega arith)))
+    (λ c κs. let b8 = c .before .before .before .before .before .before .before .before in (((b8 .pre .0 .0), (b8 .pre .0 .1, omega arith)), b8 .pre .1)) returns (λ c. search needs)
+    (λ c. search needs) loop-again returns-2)

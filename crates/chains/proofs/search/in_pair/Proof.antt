@@ -9,16 +9,6 @@ use borrow.Author.Needs.{needs}
 use Rattle.chains.proofs.search.in_pair.Statement.{statement}
 use Rattle.chains.proofs.search.in_pair.Tie as tie
 
-pair-requires : tie.Need-pair-requires
-pair-requires c κs =
-    let b7 = c .before .before .before .before .before .before .before in let pre = b7 .pre in
-    ((pre .0 .0, (pre .0 .1, pre .1 .0 .rings-long)), (planes-long (pre .1 .0), pre .1 .1))
-
-mul-result : tie.Need-mul-result
-mul-result c =
-    let b10 = c .before .before .before .before .before .before .before .before .before .before in
-    omega (arith, area-fit (b10 .args .w) (b10 .args .h) (b10 .pre .0 .0 .0))
-
 returns : tie.Need-returns
 returns c =
     let b2 = c .before .before in let b10 = b2 .before .before .before .before .before .before .before .before in let args = b10 .args in
@@ -38,5 +28,8 @@ in-rows-requires c κs =
 pub in-pair-spec : {M : Type 1} → statement M
 in-pair-spec =
     tie.close
-    (tie.spec pair-requires (λ c κs. search needs) mul-result returns (λ c. search needs) read-requires (λ c. search needs) in-rows-requires
-    (λ c. c .in-rows .ensures))
+    (tie.spec
+    (λ c κs. let b7 = c .before .before .before .before .before .before .before in let pre = b7 .pre in ((pre .0 .0, (pre .0 .1, pre .1 .0 .rings-long)), (planes-long (pre .1 .0), pre .1 .1)))
+    (λ c κs. search needs)
+    (λ c. let b10 = c .before .before .before .before .before .before .before .before .before .before in omega (arith, area-fit (b10 .args .w) (b10 .args .h) (b10 .pre .0 .0 .0))) returns
+    (λ c. search needs) read-requires (λ c. search needs) in-rows-requires (λ c. c .in-rows .ensures))

@@ -23,16 +23,8 @@ mul-bytes c =
     let b6 = c .before .before .before .before .before .before in
     omega (arith, bytes-fit (b6 .args .w) (b6 .args .h) (c .row-bytes .result) (b6 .pre .0 .sized) (c .row-bytes .ensures .1))
 
-mul-area : tie.Need-mul-area Inv-loop μ-loop
-mul-area c =
-    let b6 = c .before .before .before .before .before .before in
-    omega (arith, area-fit (b6 .args .w) (b6 .args .h) (b6 .pre .0 .sized))
-
 loop-holds : tie.Need-loop-holds Inv-loop μ-loop
 loop-holds c = (omega arith, omega arith, omega arith, λ y a b. absurd (omega arith))
-
-add-loop : tie.Need-add-loop Inv-loop μ-loop
-add-loop c = omega (arith, c .before .before .before .before .before .before .before .pre .0 .n-high)
 
 add-mid : tie.Need-add-mid Inv-loop μ-loop
 add-mid c =
@@ -182,7 +174,8 @@ returns-2 c =
 pub in-pairs-spec : {M : Type 1} → statement M
 in-pairs-spec =
     tie.close
-    (tie.spec Inv-loop μ-loop (λ c κs. c .before .before .before .before .before .pre .0 .sized .w-high) mul-bytes mul-area loop-holds add-loop add-mid
-    add-end add-next (λ c. search needs) (λ c. search needs) part-in-pair-end (λ c. search needs) (λ c. search needs) part-in-pair-end-2
-    (λ c. search needs) (λ c. search needs) part-in-pair-end-3 (λ c. search needs) (λ c. search needs) part-in-pair-end-4 mul-in-pair (λ c. search needs)
-    (λ c. search needs) part-in-pair-end-5 in-pair-requires add-result returns add-i (λ c. search needs) loop-again returns-2)
+    (tie.spec Inv-loop μ-loop (λ c κs. c .before .before .before .before .before .pre .0 .sized .w-high) mul-bytes
+    (λ c. let b6 = c .before .before .before .before .before .before in omega (arith, area-fit (b6 .args .w) (b6 .args .h) (b6 .pre .0 .sized))) loop-holds
+    (λ c. omega (arith, c .before .before .before .before .before .before .before .pre .0 .n-high)) add-mid add-end add-next (λ c. search needs) (λ c. search needs) part-in-pair-end
+    (λ c. search needs) (λ c. search needs) part-in-pair-end-2 (λ c. search needs) (λ c. search needs) part-in-pair-end-3 (λ c. search needs) (λ c. search needs) part-in-pair-end-4 mul-in-pair
+    (λ c. search needs) (λ c. search needs) part-in-pair-end-5 in-pair-requires add-result returns add-i (λ c. search needs) loop-again returns-2)

@@ -15,11 +15,6 @@ Inv-loop low up below above rings disc halves w h q ringed x₀ r₀ x r = (r �
 abbrev μ-loop : tie.MeasureT-loop
 μ-loop low up below above rings disc halves w h q ringed x₀ r₀ x r = h - r
 
-in-row-requires : tie.Need-in-row-requires Inv-loop μ-loop
-in-row-requires c κs =
-    let b9 = c .before .before .before .before .before .before .before .before .before in let pre = b9 .pre in
-    (((pre .0 .0, c .loop-test .taken), pre .0 .1), (pre .1 .0, pre .1 .1))
-
 add-result : tie.Need-add-result Inv-loop μ-loop
 add-result c =
     let b3 = c .before .before .before in let b11 = b3 .before .before .before .before .before .before .before .before in let args = b11 .args in
@@ -36,9 +31,6 @@ add-x : tie.Need-add-x Inv-loop μ-loop
 add-x c =
     let b3 = c .before .before .before in let b11 = b3 .before .before .before .before .before .before .before .before in let args = b11 .args in
     omega (arith, stretch-in (b3 .loop .r) (args .h) (args .w) (b3 .loop .x) (b3 .loop .inv .1) (c .before .before .loop-test .taken), area-fit (args .w) (args .h) (b11 .pre .0 .0))
-
-add-r : tie.Need-add-r Inv-loop μ-loop
-add-r c = omega (arith, c .before .before .before .before .before .before .before .before .before .before .before .pre .0 .0 .h-high)
 
 loop-again : tie.Need-loop-again Inv-loop μ-loop
 loop-again c =
@@ -59,5 +51,7 @@ returns-2 c =
 pub in-rows-spec : {M : Type 1} → statement M
 in-rows-spec =
     tie.close
-    (tie.spec Inv-loop μ-loop (λ c. (omega arith, omega arith, λ y a b. absurd (omega arith))) in-row-requires add-result returns add-x add-r
-    (λ c. search needs) loop-again returns-2)
+    (tie.spec Inv-loop μ-loop (λ c. (omega arith, omega arith, λ y a b. absurd (omega arith)))
+    (λ c κs. let b9 = c .before .before .before .before .before .before .before .before .before in let pre = b9 .pre in (((pre .0 .0, c .loop-test .taken), pre .0 .1), (pre .1 .0, pre .1 .1)))
+    add-result returns add-x (λ c. omega (arith, c .before .before .before .before .before .before .before .before .before .before .before .pre .0 .0 .h-high)) (λ c. search needs) loop-again
+    returns-2)

@@ -6,11 +6,6 @@ use borrow.Author.Needs.{needs}
 use Rattle.job.proofs.writing.put_job.Statement.{statement}
 use Rattle.job.proofs.writing.put_job.Tie as tie
 
-put-head-requires : tie.Need-put-head-requires
-put-head-requires c κs =
-    let b5 = c .before .before .before .before .before in
-    the-room _ _ _ _ (b5 .pre .0) _ (b5 .pre .1) .for-head
-
 put-rows-requires : tie.Need-put-rows-requires
 put-rows-requires c κs =
     let b4 = c .before .before .before .before in let b10 = b4 .before .before .before .before .before .before in
@@ -40,5 +35,5 @@ returns c =
 pub put-job-spec : {M : Type 1} → statement M
 put-job-spec =
     tie.close
-    (tie.spec put-head-requires (λ c κs. search needs) put-rows-requires (λ c κs. search needs) (λ c κs. search needs) put-rows-requires-2
-    (λ c κs. search needs) put-rings-requires (λ c. search needs) returns)
+    (tie.spec (λ c κs. let b5 = c .before .before .before .before .before in the-room _ _ _ _ (b5 .pre .0) _ (b5 .pre .1) .for-head) (λ c κs. search needs) put-rows-requires (λ c κs. search needs)
+    (λ c κs. search needs) put-rows-requires-2 (λ c κs. search needs) put-rings-requires (λ c. search needs) returns)

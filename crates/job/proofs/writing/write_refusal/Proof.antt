@@ -12,12 +12,6 @@ use Rattle.job.proofs.writing.write_refusal.Tie as tie
 returns : tie.Need-returns
 returns c = stops _ (c .before .both-refusal .ensures) (c .if1 .taken) ∙ sym (write-parts _ _)
 
-stored-rows-requires : tie.Need-stored-rows-requires
-stored-rows-requires c κs = both-exactly _ _ _ _ _ .0 (sym (c .before .both-refusal .ensures) ∙ c .if1 .left) .stack .settings
-
-job-end-requires : tie.Need-job-end-requires
-job-end-requires c κs = (both-exactly _ _ _ _ _ .0 (sym (c .before .before .both-refusal .ensures) ∙ c .before .if1 .left) .stack .settings, c .stored-rows .ensures .1)
-
 returns-2 : tie.Need-returns-2
 unfolding fileLength
 returns-2 c =
@@ -29,4 +23,5 @@ returns-2 c =
 pub write-refusal-spec : {M : Type 1} → statement M
 write-refusal-spec =
     tie.close
-    (tie.spec (λ c κs. search needs) returns stored-rows-requires job-end-requires (λ c κs. search needs) returns-2)
+    (tie.spec (λ c κs. search needs) returns (λ c κs. both-exactly _ _ _ _ _ .0 (sym (c .before .both-refusal .ensures) ∙ c .if1 .left) .stack .settings)
+    (λ c κs. (both-exactly _ _ _ _ _ .0 (sym (c .before .before .both-refusal .ensures) ∙ c .before .if1 .left) .stack .settings, c .stored-rows .ensures .1)) (λ c κs. search needs) returns-2)

@@ -18,11 +18,6 @@ Inv-loop rings ones x m at all₀ k₀ all k = (k ≤ 8) × (all ≡ 0 → (j : 
 abbrev μ-loop : tie.MeasureT-loop
 μ-loop rings ones x m at all₀ k₀ all k = 8 - k
 
-shared-slice-read-all-2 : tie.Need-shared-slice-read-all-2 Inv-loop μ-loop
-shared-slice-read-all-2 c =
-    let b4 = c .before .before .before .before in let b7 = b4 .before .before .before in
-    omega (arith, b4 .wide .ensures, b7 .pre .1 .long)
-
 loop-again : tie.Need-loop-again Inv-loop μ-loop
 loop-again c =
     let b3 = c .before .before .before in let b4 = b3 .before in let b7 = b4 .before .before .before in let args = b7 .args in (
@@ -38,6 +33,7 @@ returns c = λ e j l. c .before .loop .inv .1 (eqb-true _ 0 e) j (omega arith)
 pub alike-spec : {M : Type 1} → statement M
 alike-spec =
     tie.close
-    (tie.spec Inv-loop μ-loop (λ c κs. search needs) (λ c. omega (arith, c .wide .ensures)) (λ c. (omega arith, λ e j l. absurd (omega arith)))
-    (λ c. search needs) (λ c. search needs) (λ c. search needs) (λ c. omega (arith, c .before .before .before .wide .ensures))
-    (λ c. omega (arith, c .before .before .before .wide .ensures)) shared-slice-read-all-2 (λ c. search needs) (λ c. search needs) loop-again returns)
+    (tie.spec Inv-loop μ-loop (λ c κs. search needs) (λ c. omega (arith, c .wide .ensures)) (λ c. (omega arith, λ e j l. absurd (omega arith))) (λ c. search needs) (λ c. search needs)
+    (λ c. search needs) (λ c. omega (arith, c .before .before .before .wide .ensures)) (λ c. omega (arith, c .before .before .before .wide .ensures))
+    (λ c. let b4 = c .before .before .before .before in let b7 = b4 .before .before .before in omega (arith, b4 .wide .ensures, b7 .pre .1 .long)) (λ c. search needs) (λ c. search needs) loop-again
+    returns)

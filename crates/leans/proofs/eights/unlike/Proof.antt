@@ -27,6 +27,5 @@ loop-again c =
 pub unlike-spec : {M : Type 1} → statement M
 unlike-spec =
     tie.close
-    (tie.spec Inv-loop μ-loop (λ c. (omega arith, omega arith, λ j lo hi. absurd (omega arith))) (λ c. search needs) (λ c. search needs)
-    (λ c κs. search needs) (λ c κs. search needs) (λ c. c .before .before .before .before .loop .inv) (λ c. search needs) (λ c. search needs) loop-again
-    (λ c. c .before .loop .inv))
+    (tie.spec Inv-loop μ-loop (λ c. (omega arith, omega arith, λ j lo hi. absurd (omega arith))) (λ c. search needs) (λ c. search needs) (λ c κs. search needs) (λ c κs. search needs)
+    (λ c. c .before .before .before .before .loop .inv) (λ c. search needs) (λ c. search needs) loop-again (λ c. c .before .loop .inv))

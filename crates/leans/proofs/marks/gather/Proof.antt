@@ -20,5 +20,5 @@ loop-again c =
 pub gather-spec : {M : Type 1} → statement M
 gather-spec =
     tie.close
-    (tie.spec Inv-loop μ-loop (λ c. (omega arith, λ k l. absurd (omega arith))) (λ c. search needs) (λ c. search needs) (λ c. search needs)
-    (λ c. search needs) (λ c. search needs) loop-again (λ c. λ k l. c .before .loop .inv .1 k (omega arith)))
+    (tie.spec Inv-loop μ-loop (λ c. (omega arith, λ k l. absurd (omega arith))) (λ c. search needs) (λ c. search needs) (λ c. search needs) (λ c. search needs) (λ c. search needs) loop-again
+    (λ c. λ k l. c .before .loop .inv .1 k (omega arith)))

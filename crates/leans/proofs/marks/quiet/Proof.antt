@@ -28,5 +28,5 @@ returns c =
 pub quiet-spec : {M : Type 1} → statement M
 quiet-spec =
     tie.close
-    (tie.spec Inv-loop μ-loop (λ c. (omega arith, λ e k l. absurd (omega arith))) (λ c. search needs) (λ c. search needs) (λ c κs. omega arith)
-    (λ c. search needs) (λ c. search needs) loop-again (λ c. search needs) (λ c. search needs) (λ c κs. omega arith) returns)
+    (tie.spec Inv-loop μ-loop (λ c. (omega arith, λ e k l. absurd (omega arith))) (λ c. search needs) (λ c. search needs) (λ c κs. omega arith) (λ c. search needs) (λ c. search needs) loop-again
+    (λ c. search needs) (λ c. search needs) (λ c κs. omega arith) returns)

@@ -39,6 +39,5 @@ returns-5 c =
 pub good-spec : {M : Type 1} → statement M
 good-spec =
     tie.close
-    (tie.spec returns (λ c κs. search needs) returns-2 (λ c κs. search needs) (λ c. λ e. clash e refl) (λ c κs. search needs) (λ c. search needs)
-    (λ c κs. search needs) (λ c κs. search needs) (λ c. search needs) (λ c. search needs) steps-inside-requires returns-4 (λ c. search needs)
-    (λ c. search needs) (λ c κs. search needs) returns-5)
+    (tie.spec returns (λ c κs. search needs) returns-2 (λ c κs. search needs) (λ c. λ e. clash e refl) (λ c κs. search needs) (λ c. search needs) (λ c κs. search needs) (λ c κs. search needs)
+    (λ c. search needs) (λ c. search needs) steps-inside-requires returns-4 (λ c. search needs) (λ c. search needs) (λ c κs. search needs) returns-5)

@@ -21,12 +21,6 @@ Inv-loop rings w h r x from to free first at got₀ most₀ k₀ got most k =
 abbrev μ-loop : tie.MeasureT-loop
 μ-loop rings w h r x from to free first at got₀ most₀ k₀ got most k = to - k
 
-mul-at : tie.Need-mul-at Inv-loop μ-loop
-mul-at c = let p = c .before .pre in omega (arith, step-fits (c .before .args .w) (c .before .args .h) (c .before .args .r) 0 (p .0 .0) (p .1 .0) (p .0 .0 .w-low), p .0 .0 .w-high)
-
-add-at : tie.Need-add-at Inv-loop μ-loop
-add-at c = let p = c .before .pre in omega (arith, step-fits (c .before .args .w) (c .before .args .h) (c .before .args .r) 0 (p .0 .0) (p .1 .0) (p .0 .0 .w-low), p .0 .0 .w-high)
-
 loop-holds : tie.Need-loop-holds Inv-loop μ-loop
 loop-holds c = (
   omega arith,
@@ -35,21 +29,6 @@ loop-holds c = (
   record { has = λ j a b. absurd (omega arith); only = λ j l out. bit-zero j },
   λ j a b. absurd (omega arith),
 )
-
-add-v : tie.Need-add-v Inv-loop μ-loop
-add-v c =
-    let b3 = c .before .before .before in
-    let p = b3 .pre in omega (arith, step-fits (b3 .args .w) (b3 .args .h) (b3 .args .r) 0 (p .0 .0) (p .1 .0) (p .0 .0 .w-low), p .0 .0 .w-high)
-
-mul-v : tie.Need-mul-v Inv-loop μ-loop
-mul-v c =
-    let b3 = c .before .before .before in
-    let p = b3 .pre in omega (arith, step-fits (b3 .args .w) (b3 .args .h) (b3 .args .r) 0 (p .0 .0) (p .1 .0) (p .0 .0 .w-low), p .0 .0 .w-high)
-
-shared-slice-read-v : tie.Need-shared-slice-read-v Inv-loop μ-loop
-shared-slice-read-v c =
-    let b4 = c .before .before .before .before in
-    let a = b4 .args in omega (arith, in-plane (a .w) (a .h) (a .r) (a .x + c .before .before .loop .k) (b4 .pre .1 .0) (omega arith))
 
 loop-again : tie.Need-loop-again Inv-loop μ-loop
 loop-again c =
@@ -63,11 +42,6 @@ loop-again c =
       got-none (a .w) (a .rings .now) (a .r * a .w) (a .x) (a .from) (l .k) (l .got) z (omega arith) (l .inv .3),
       all-more (λ j. getD (a .rings .now) (a .r * a .w + (a .x + j)) 0 ≤ l .most) (a .from) (l .k) (l .inv .4) (omega arith),
     )
-
-good-requires : tie.Need-good-requires Inv-loop μ-loop
-good-requires c κs =
-    let b5 = c .before .before .before .before .before in
-    ((b5 .pre .0, (b5 .pre .1 .0, (omega arith, omega arith))), ap (λ (p : ℕ). getD (b5 .args .rings .now) p 0) (omega arith))
 
 returns : tie.Need-returns Inv-loop μ-loop
 returns c = record { fine = λ e. clash e refl; gets = λ e. clash e refl; most = λ e. clash e refl }
@@ -96,5 +70,12 @@ returns-2 c =
 pub pixels-spec : {M : Type 1} → statement M
 pixels-spec =
     tie.close
-    (tie.spec Inv-loop μ-loop mul-at add-at loop-holds add-v mul-v shared-slice-read-v (λ c. search needs) (λ c. search needs) loop-again good-requires
-    returns (λ c κs. search needs) (λ c. search needs) (λ c. search needs) loop-again-2 returns-2)
+    (tie.spec Inv-loop μ-loop
+    (λ c. let p = c .before .pre in omega (arith, step-fits (c .before .args .w) (c .before .args .h) (c .before .args .r) 0 (p .0 .0) (p .1 .0) (p .0 .0 .w-low), p .0 .0 .w-high))
+    (λ c. let p = c .before .pre in omega (arith, step-fits (c .before .args .w) (c .before .args .h) (c .before .args .r) 0 (p .0 .0) (p .1 .0) (p .0 .0 .w-low), p .0 .0 .w-high)) loop-holds
+    (λ c. let b3 = c .before .before .before in let p = b3 .pre in omega (arith, step-fits (b3 .args .w) (b3 .args .h) (b3 .args .r) 0 (p .0 .0) (p .1 .0) (p .0 .0 .w-low), p .0 .0 .w-high))
+    (λ c. let b3 = c .before .before .before in let p = b3 .pre in omega (arith, step-fits (b3 .args .w) (b3 .args .h) (b3 .args .r) 0 (p .0 .0) (p .1 .0) (p .0 .0 .w-low), p .0 .0 .w-high))
+    (λ c. let b4 = c .before .before .before .before in let a = b4 .args in omega (arith, in-plane (a .w) (a .h) (a .r) (a .x + c .before .before .loop .k) (b4 .pre .1 .0) (omega arith)))
+    (λ c. search needs) (λ c. search needs) loop-again
+    (λ c κs. let b5 = c .before .before .before .before .before in ((b5 .pre .0, (b5 .pre .1 .0, (omega arith, omega arith))), ap (λ (p : ℕ). getD (b5 .args .rings .now) p 0) (omega arith))) returns
+    (λ c κs. search needs) (λ c. search needs) (λ c. search needs) loop-again-2 returns-2)

@@ -21,16 +21,10 @@ Inv-rows rings w h r c v found₀ i₀ found i = (found ≡ false) × (i ≤ 3)
 abbrev μ-rows : tie.MeasureT-rows
 μ-rows rings w h r c v found₀ i₀ found i = 3 - i
 
-beside-requires : tie.Need-beside-requires Inv-loop μ-loop Inv-rows μ-rows
-beside-requires c κs = (omega arith, (omega arith, c .before .before .before .pre .0 .0 .h-high))
-
 mul-start : tie.Need-mul-start Inv-loop μ-loop Inv-rows μ-rows
 mul-start c =
     let b4 = c .before .before .before .before in
     omega (arith, step-fits (b4 .args .w) (b4 .args .h) (c .beside .result) (b4 .args .c) (b4 .pre .0 .0) (c .beside .ensures .0) (b4 .pre .1 .1))
-
-beside-requires-2 : tie.Need-beside-requires-2 Inv-loop μ-loop Inv-rows μ-rows
-beside-requires-2 c κs = (omega arith, (omega arith, c .before .before .before .before .before .before .pre .0 .0 .w-high))
 
 add-if1 : tie.Need-add-if1 Inv-loop μ-loop Inv-rows μ-rows
 add-if1 c =
@@ -55,7 +49,7 @@ returns-2 c =
 pub steps-spec : {M : Type 1} → statement M
 steps-spec =
     tie.close
-    (tie.spec Inv-loop μ-loop Inv-rows μ-rows (λ c. (refl, omega arith)) beside-requires mul-start (λ c. (c .before .before .rows .inv .0, omega arith))
-    beside-requires-2 add-if1 mul-if1 shared-slice-read-if1 (λ c. search needs) (λ c. search needs)
-    (λ c. (c .before .before .before .before .loop .inv .0, omega arith)) (λ c. search needs) (λ c. search needs)
+    (tie.spec Inv-loop μ-loop Inv-rows μ-rows (λ c. (refl, omega arith)) (λ c κs. (omega arith, (omega arith, c .before .before .before .pre .0 .0 .h-high))) mul-start
+    (λ c. (c .before .before .rows .inv .0, omega arith)) (λ c κs. (omega arith, (omega arith, c .before .before .before .before .before .before .pre .0 .0 .w-high))) add-if1 mul-if1
+    shared-slice-read-if1 (λ c. search needs) (λ c. search needs) (λ c. (c .before .before .before .before .loop .inv .0, omega arith)) (λ c. search needs) (λ c. search needs)
     (λ c. (c .before .loop .inv .0, omega arith)) (λ c. λ e. clash e (c .before .rows .inv .0)) returns-2)

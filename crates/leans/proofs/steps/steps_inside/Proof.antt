@@ -23,12 +23,6 @@ Inv-rows rings w h r c v at found₀ i₀ found i = (found ≡ false) × (i ≤ 
 abbrev μ-rows : tie.MeasureT-rows
 μ-rows rings w h r c v at found₀ i₀ found i = 3 - i
 
-mul-at : tie.Need-mul-at Inv-loop μ-loop Inv-rows μ-rows
-mul-at c = let a = c .args in omega (arith, nine-in (a .w) (a .h) (a .r) (a .c) 0 0 (c .pre .1) (omega arith) (omega arith), area-fit (a .w) (a .h) (c .pre .0 .0))
-
-add-at : tie.Need-add-at Inv-loop μ-loop Inv-rows μ-rows
-add-at c = let a = c .args in omega (arith, nine-in (a .w) (a .h) (a .r) (a .c) 0 0 (c .pre .1) (omega arith) (omega arith), area-fit (a .w) (a .h) (c .pre .0 .0))
-
 mul-start : tie.Need-mul-start Inv-loop μ-loop Inv-rows μ-rows
 mul-start c =
     let b2 = c .before .before in
@@ -66,7 +60,9 @@ returns-2 c =
 pub steps-inside-spec : {M : Type 1} → statement M
 steps-inside-spec =
     tie.close
-    (tie.spec Inv-loop μ-loop Inv-rows μ-rows (λ c. search needs) mul-at (λ c. search needs) add-at (λ c. (refl, omega arith)) mul-start add-start
-    (λ c. (c .before .rows .inv .0, omega arith)) add-if1 mul-if1 shared-slice-read-if1 (λ c. search needs) (λ c. search needs)
-    (λ c. (c .before .before .before .loop .inv .0, omega arith)) (λ c. search needs) (λ c. search needs) (λ c. (c .before .loop .inv .0, omega arith))
-    (λ c. λ e. clash e (c .before .rows .inv .0)) returns-2)
+    (tie.spec Inv-loop μ-loop Inv-rows μ-rows (λ c. search needs)
+    (λ c. let a = c .args in omega (arith, nine-in (a .w) (a .h) (a .r) (a .c) 0 0 (c .pre .1) (omega arith) (omega arith), area-fit (a .w) (a .h) (c .pre .0 .0))) (λ c. search needs)
+    (λ c. let a = c .args in omega (arith, nine-in (a .w) (a .h) (a .r) (a .c) 0 0 (c .pre .1) (omega arith) (omega arith), area-fit (a .w) (a .h) (c .pre .0 .0))) (λ c. (refl, omega arith))
+    mul-start add-start (λ c. (c .before .rows .inv .0, omega arith)) add-if1 mul-if1 shared-slice-read-if1 (λ c. search needs) (λ c. search needs)
+    (λ c. (c .before .before .before .loop .inv .0, omega arith)) (λ c. search needs) (λ c. search needs) (λ c. (c .before .loop .inv .0, omega arith)) (λ c. λ e. clash e (c .before .rows .inv .0))
+    returns-2)

@@ -15,16 +15,6 @@ Inv-loop rings ones w h r x n free first at got₀ most₀ b₀ got most b = (b 
 abbrev μ-loop : tie.MeasureT-loop
 μ-loop rings ones w h r x n free first at got₀ most₀ b₀ got most b = 8 - b
 
-mul-at : tie.Need-mul-at Inv-loop μ-loop
-mul-at c =
-    let b2 = c .before .before in
-    let p = b2 .pre in omega (arith, step-fits (b2 .args .w) (b2 .args .h) (b2 .args .r) 0 (p .0 .0) (p .1 .0) (p .0 .0 .w-low), p .0 .0 .w-high)
-
-add-at : tie.Need-add-at Inv-loop μ-loop
-add-at c =
-    let b2 = c .before .before in
-    let p = b2 .pre in omega (arith, step-fits (b2 .args .w) (b2 .args .h) (b2 .args .r) 0 (p .0 .0) (p .1 .0) (p .0 .0 .w-low), p .0 .0 .w-high)
-
 next-requires : tie.Need-next-requires Inv-loop μ-loop
 next-requires c κs = let p = c .before .before .pre in
     let a = c .before .before .args in
@@ -92,9 +82,6 @@ loop-again c =
       }),
     )
 
-patched-requires : tie.Need-patched-requires Inv-loop μ-loop
-patched-requires c κs = omega (arith, c .before .before .before .before .before .before .before .before .before .pre .1 .1 .1 .0)
-
 returns-2 : tie.Need-returns-2 Inv-loop μ-loop
 returns-2 c =
     let a = c .before .before .before .before .before .args in
@@ -105,5 +92,8 @@ returns-2 c =
 pub eights-spec : {M : Type 1} → statement M
 eights-spec =
     tie.close
-    (tie.spec Inv-loop μ-loop mul-at add-at next-requires loop-holds (λ c. search needs) (λ c. search needs) (λ c. search needs) (λ c κs. search needs)
-    (λ c. search needs) pixels-requires returns patched-requires (λ c. search needs) next-requires-2 (λ c. search needs) loop-again returns-2)
+    (tie.spec Inv-loop μ-loop
+    (λ c. let b2 = c .before .before in let p = b2 .pre in omega (arith, step-fits (b2 .args .w) (b2 .args .h) (b2 .args .r) 0 (p .0 .0) (p .1 .0) (p .0 .0 .w-low), p .0 .0 .w-high))
+    (λ c. let b2 = c .before .before in let p = b2 .pre in omega (arith, step-fits (b2 .args .w) (b2 .args .h) (b2 .args .r) 0 (p .0 .0) (p .1 .0) (p .0 .0 .w-low), p .0 .0 .w-high)) next-requires
+    loop-holds (λ c. search needs) (λ c. search needs) (λ c. search needs) (λ c κs. search needs) (λ c. search needs) pixels-requires returns
+    (λ c κs. omega (arith, c .before .before .before .before .before .before .before .before .before .pre .1 .1 .1 .0)) (λ c. search needs) next-requires-2 (λ c. search needs) loop-again returns-2)

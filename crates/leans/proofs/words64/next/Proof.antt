@@ -6,12 +6,7 @@ use Rattle.leans.proofs.words64.next.Tie as tie
 returns : tie.Need-returns
 returns c = (omega arith, c .before .before .before .pre .3, λ k lo hi. absurd (omega arith))
 
-unlike-requires : tie.Need-unlike-requires
-unlike-requires c κs =
-    let b3 = c .before .before .before in let pre = b3 .pre in
-    (pre .0 (omega arith), pre .1, pre .2, pre .3)
-
 pub next-spec : {M : Type 1} → statement M
 next-spec =
     tie.close
-    (tie.spec returns unlike-requires (λ c. search needs))
+    (tie.spec returns (λ c κs. let b3 = c .before .before .before in let pre = b3 .pre in (pre .0 (omega arith), pre .1, pre .2, pre .3)) (λ c. search needs))

@@ -27,11 +27,6 @@ loop-holds c = (
   λ e y l. absurd (omega arith),
 )
 
-word-requires : tie.Need-word-requires Inv-loop μ-loop
-word-requires c κs =
-    let b10 = c .before .before .before .before .before .before .before .before .before .before in
-    (b10 .pre .0 .0, (b10 .pre .0 .1 .0, (omega arith, b10 .pre .0 .1 .1)))
-
 slice-write-got : tie.Need-slice-write-got Inv-loop μ-loop
 slice-write-got c = omega (
   arith,
@@ -63,7 +58,7 @@ returns-2 c =
 pub row-spec : {M : Type 1} → statement M
 row-spec =
     tie.close
-    (tie.spec Inv-loop μ-loop loop-holds (λ c. search needs) (λ c. search needs) (λ c. search needs) (λ c. search needs) (λ c. search needs) word-requires
-    (λ c. c .before .before .before .before .before .before .loop .inv .1) (λ c. ((λ e. clash e refl), ((λ e. clash e refl), λ e. clash e refl)))
-    (λ c. search needs) (λ c. search needs) (λ c. search needs) slice-write-got (λ c. search needs) (λ c. search needs) loop-again
-    (λ c. c .before .loop .inv .1) returns-2)
+    (tie.spec Inv-loop μ-loop loop-holds (λ c. search needs) (λ c. search needs) (λ c. search needs) (λ c. search needs) (λ c. search needs)
+    (λ c κs. let b10 = c .before .before .before .before .before .before .before .before .before .before in (b10 .pre .0 .0, (b10 .pre .0 .1 .0, (omega arith, b10 .pre .0 .1 .1))))
+    (λ c. c .before .before .before .before .before .before .loop .inv .1) (λ c. ((λ e. clash e refl), ((λ e. clash e refl), λ e. clash e refl))) (λ c. search needs) (λ c. search needs)
+    (λ c. search needs) slice-write-got (λ c. search needs) (λ c. search needs) loop-again (λ c. c .before .loop .inv .1) returns-2)

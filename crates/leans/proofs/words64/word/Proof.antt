@@ -38,12 +38,8 @@ returns-2 c =
     quiet-told (a .w) (a .h) (a .rings .now) (a .r) (a .x) (a .free) (a .first) _ (λ e k b lw.
     sym (ap (λ (p : ℕ). getD (a .rings .now) p 0) (omega arith)) ∙ c .none .ensures e k (omega (arith, c .before .before .lesser .ensures)))
 
-eights-requires : tie.Need-eights-requires
-eights-requires c κs =
-    let b5 = c .before .before .before .before .before in
-    (b5 .pre .0, (b5 .pre .1 .0, (omega arith, (c .before .lesser .ensures, b5 .pre .1 .1 .1))))
-
 pub word-spec : {M : Type 1} → statement M
 word-spec =
     tie.close
-    (tie.spec returns (λ c. search needs) (λ c κs. search needs) mul-none add-none none-requires returns-2 eights-requires (λ c. search needs))
+    (tie.spec returns (λ c. search needs) (λ c κs. search needs) mul-none add-none none-requires returns-2
+    (λ c κs. let b5 = c .before .before .before .before .before in (b5 .pre .0, (b5 .pre .1 .0, (omega arith, (c .before .lesser .ensures, b5 .pre .1 .1 .1))))) (λ c. search needs))

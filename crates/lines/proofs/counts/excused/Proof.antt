@@ -16,12 +16,6 @@ Inv-loop rings w h i all start n₀ p₀ n p = (p ≤ all) × (n ≡ count p (pl
 abbrev μ-loop : tie.MeasureT-loop
 μ-loop rings w h i all start n₀ p₀ n p = all - p
 
-mul-all : tie.Need-mul-all Inv-loop μ-loop
-mul-all c = omega (arith, ring-area (c .before .args .w) (c .before .args .h) (c .before .args .i) (c .before .pre .0) (c .before .pre .1 .0))
-
-mul-start : tie.Need-mul-start Inv-loop μ-loop
-mul-start c = omega (arith, ring-start (c .before .args .w) (c .before .args .h) (c .before .args .i) (c .before .pre .0) (c .before .pre .1 .0) (c .before .pre .1 .1 .0))
-
 loop-holds : tie.Need-loop-holds Inv-loop μ-loop
 unfolding count
 loop-holds c = (omega arith, refl)
@@ -74,5 +68,6 @@ returns c =
 pub excused-spec : {M : Type 1} → statement M
 excused-spec =
     tie.close
-    (tie.spec Inv-loop μ-loop mul-all mul-start loop-holds add-one mul-one shared-slice-read-one (λ c κs. search needs) add-n add-p (λ c. search needs)
-    loop-again returns)
+    (tie.spec Inv-loop μ-loop (λ c. omega (arith, ring-area (c .before .args .w) (c .before .args .h) (c .before .args .i) (c .before .pre .0) (c .before .pre .1 .0)))
+    (λ c. omega (arith, ring-start (c .before .args .w) (c .before .args .h) (c .before .args .i) (c .before .pre .0) (c .before .pre .1 .0) (c .before .pre .1 .1 .0))) loop-holds add-one mul-one
+    shared-slice-read-one (λ c κs. search needs) add-n add-p (λ c. search needs) loop-again returns)

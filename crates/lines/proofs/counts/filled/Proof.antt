@@ -24,9 +24,6 @@ add-n c =
     let b3 = c .before .before .before in let b5 = b3 .before .before in let args = b5 .args in
     omega (arith, c .one .ensures .1, count-le (b3 .loop .p) (images.pixel (args .w) (args .h) (args .s .now) (args .i)), b3 .loop .inv .1, area (b5 .pre), c .before .before .loop-test .taken)
 
-add-p : tie.Need-add-p Inv-loop μ-loop
-add-p c = omega (arith, area (c .before .before .before .before .before .pre), c .before .before .loop-test .taken)
-
 loop-again : tie.Need-loop-again Inv-loop μ-loop
 loop-again c =
     let b3 = c .before .before .before in let b5 = b3 .before .before in let args = b5 .args in (
@@ -44,5 +41,5 @@ returns c =
 pub filled-spec : {M : Type 1} → statement M
 filled-spec =
     tie.close
-    (tie.spec Inv-loop μ-loop (λ c. omega (arith, area (c .before .pre))) loop-holds (λ c κs. (c .before .before .before .pre, c .loop-test .taken))
-    (λ c κs. search needs) add-n add-p (λ c. search needs) loop-again returns)
+    (tie.spec Inv-loop μ-loop (λ c. omega (arith, area (c .before .pre))) loop-holds (λ c κs. (c .before .before .before .pre, c .loop-test .taken)) (λ c κs. search needs) add-n
+    (λ c. omega (arith, area (c .before .before .before .before .before .pre), c .before .before .loop-test .taken)) (λ c. search needs) loop-again returns)

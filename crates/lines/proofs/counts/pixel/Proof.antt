@@ -9,27 +9,6 @@ use borrow.Author.Needs.{needs}
 use Rattle.lines.proofs.counts.pixel.Statement.{statement}
 use Rattle.lines.proofs.counts.pixel.Tie as tie
 
-mul-row : tie.Need-mul-row
-mul-row c = omega (arith, row-high (c .before .before .pre .0) (c .before .before .args .p) (c .before .before .pre .1))
-
-add-row : tie.Need-add-row
-add-row c = omega (arith, row-high (c .before .before .pre .0) (c .before .before .args .p) (c .before .before .pre .1))
-
-mul-bit : tie.Need-mul-bit
-mul-bit c =
-    let b2 = c .before .before in
-    omega (arith, byte-in (b2 .pre .0) (b2 .args .p) (c .row-bytes .result) (c .row-bytes .ensures .0) (b2 .pre .1))
-
-add-bit : tie.Need-add-bit
-add-bit c =
-    let b2 = c .before .before in
-    omega (arith, byte-in (b2 .pre .0) (b2 .args .p) (c .row-bytes .result) (c .row-bytes .ensures .0) (b2 .pre .1))
-
-shared-slice-read-bit : tie.Need-shared-slice-read-bit
-shared-slice-read-bit c =
-    let b3 = c .before .before .before in
-    byte-in (b3 .pre .0) (b3 .args .p) (c .before .row-bytes .result) (c .before .row-bytes .ensures .0) (b3 .pre .1)
-
 returns : tie.Need-returns
 unfolding images.pixel
 returns c =
@@ -40,5 +19,8 @@ returns c =
 pub pixel-spec : {M : Type 1} → statement M
 pixel-spec =
     tie.close
-    (tie.spec (λ c κs. search needs) (λ c. search needs) mul-row (λ c. search needs) add-row mul-bit add-bit shared-slice-read-bit (λ c κs. search needs)
-    returns)
+    (tie.spec (λ c κs. search needs) (λ c. search needs) (λ c. omega (arith, row-high (c .before .before .pre .0) (c .before .before .args .p) (c .before .before .pre .1))) (λ c. search needs)
+    (λ c. omega (arith, row-high (c .before .before .pre .0) (c .before .before .args .p) (c .before .before .pre .1)))
+    (λ c. let b2 = c .before .before in omega (arith, byte-in (b2 .pre .0) (b2 .args .p) (c .row-bytes .result) (c .row-bytes .ensures .0) (b2 .pre .1)))
+    (λ c. let b2 = c .before .before in omega (arith, byte-in (b2 .pre .0) (b2 .args .p) (c .row-bytes .result) (c .row-bytes .ensures .0) (b2 .pre .1)))
+    (λ c. let b3 = c .before .before .before in byte-in (b3 .pre .0) (b3 .args .p) (c .before .row-bytes .result) (c .before .row-bytes .ensures .0) (b3 .pre .1)) (λ c κs. search needs) returns)

@@ -7,24 +7,11 @@ use borrow.Author.Needs.{needs}
 use Rattle.lines.proofs.output.job_text.Statement.{statement}
 use Rattle.lines.proofs.output.job_text.Tie as tie
 
-ring-count-requires : tie.Need-ring-count-requires
-ring-count-requires c κs =
-    let b4 = c .before .before .before .before in
-    let r = ranged (b4 .args .s) (b4 .pre .0 .settings) in (r .n-low, (r .n-high, (r .h-high, r .w-high)))
-
-refused-line-requires : tie.Need-refused-line-requires
-refused-line-requires c κs = omega (arith, refused-short 17 (omega arith), c .before .before .before .before .before .before .before .pre .1 .text)
-
 returns : tie.Need-returns
 returns c =
     let b2 = c .before .before in let b4 = b2 .before .before in let b5 = b4 .before in let b10 = b5 .before .before .before .before .before in let args = b10 .args in
     text-no-room (args .s) (args .part .now) (b5 .ring-count .result) (b2 .refused-line .result) (b2 .refused-line .last .0) (args .out .now) (b5 .ring-count .ensures) (b4 .if1 .taken)
     (refused-printed 17 (b2 .refused-line .result) (b2 .refused-line .last .0) (args .out .now) (omega arith) (b2 .refused-line .ensures))
-
-slice-aggregate-planned-lines : tie.Need-slice-aggregate-planned-lines
-slice-aggregate-planned-lines c =
-    let b7 = c .before .before .before .before .before .before .before in
-    sym (length-take-le _ (b7 .args .support .now) (omega (arith, b7 .pre .0 .fits, b7 .pre .1 .support)))
 
 slice-aggregate-planned-lines-2 : tie.Need-slice-aggregate-planned-lines-2
 slice-aggregate-planned-lines-2 c =
@@ -49,5 +36,7 @@ returns-2 c =
 pub job-text-spec : {M : Type 1} → statement M
 job-text-spec =
     tie.close
-    (tie.spec ring-count-requires refused-line-requires (λ c. search needs) returns (λ c. search needs) slice-aggregate-planned-lines (λ c. search needs)
-    slice-aggregate-planned-lines-2 planned-lines-requires (λ c. search needs) (λ c. search needs) (λ c. search needs) returns-2)
+    (tie.spec (λ c κs. let b4 = c .before .before .before .before in let r = ranged (b4 .args .s) (b4 .pre .0 .settings) in (r .n-low, (r .n-high, (r .h-high, r .w-high))))
+    (λ c κs. omega (arith, refused-short 17 (omega arith), c .before .before .before .before .before .before .before .pre .1 .text)) (λ c. search needs) returns (λ c. search needs)
+    (λ c. let b7 = c .before .before .before .before .before .before .before in sym (length-take-le _ (b7 .args .support .now) (omega (arith, b7 .pre .0 .fits, b7 .pre .1 .support))))
+    (λ c. search needs) slice-aggregate-planned-lines-2 planned-lines-requires (λ c. search needs) (λ c. search needs) (λ c. search needs) returns-2)

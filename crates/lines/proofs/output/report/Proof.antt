@@ -12,9 +12,6 @@ returns-2 c =
     let b3 = c .before .before .before in
     printed-report _ _ _ _ _ (rw (b3 .if1 .left) (longer-report _ _ _ _ (c .before .before .if2 .taken) (refused-printed 17 _ _ _ (omega arith) (c .refused-line2 .ensures))))
 
-refused-line-requires-3 : tie.Need-refused-line-requires-3
-refused-line-requires-3 c κs = omega (arith, refused-short (c .wide .result) (c .wide .ensures .1))
-
 read-text-requires : tie.Need-read-text-requires
 read-text-requires c κs =
     let b4 = c .before .before .before .before in let b6 = b4 .before .before in let b7 = b6 .before in
@@ -34,6 +31,5 @@ returns-4 c =
 pub report-spec : {M : Type 1} → statement M
 report-spec =
     tie.close
-    (tie.spec (λ c κs. omega (arith, refused-short 17 (omega arith))) returns (λ c κs. omega (arith, refused-short 17 (omega arith))) returns-2
-    (λ c κs. search needs) (λ c. search needs) (λ c κs. search needs) refused-line-requires-3 (λ c. search needs) (λ c κs. search needs)
-    read-text-requires returns-3 returns-4)
+    (tie.spec (λ c κs. omega (arith, refused-short 17 (omega arith))) returns (λ c κs. omega (arith, refused-short 17 (omega arith))) returns-2 (λ c κs. search needs) (λ c. search needs)
+    (λ c κs. search needs) (λ c κs. omega (arith, refused-short (c .wide .result) (c .wide .ensures .1))) (λ c. search needs) (λ c κs. search needs) read-text-requires returns-3 returns-4)

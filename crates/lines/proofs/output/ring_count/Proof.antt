@@ -6,12 +6,6 @@ use borrow.Author.Needs.{needs}
 use Rattle.lines.proofs.output.ring_count.Statement.{statement}
 use Rattle.lines.proofs.output.ring_count.Tie as tie
 
-mul-result : tie.Need-mul-result
-mul-result c = omega (arith, ring-product (c .before .before .args .s) (c .before .before .pre) .0)
-
-mul-result-2 : tie.Need-mul-result-2
-mul-result-2 c = omega (arith, ring-product (c .before .before .args .s) (c .before .before .pre) .1)
-
 returns : tie.Need-returns
 unfolding ringsIn
 returns c = refl
@@ -19,4 +13,5 @@ returns c = refl
 pub ring-count-spec : {M : Type 1} → statement M
 ring-count-spec =
     tie.close
-    (tie.spec (λ c. search needs) mul-result mul-result-2 returns)
+    (tie.spec (λ c. search needs) (λ c. omega (arith, ring-product (c .before .before .args .s) (c .before .before .pre) .0))
+    (λ c. omega (arith, ring-product (c .before .before .args .s) (c .before .before .pre) .1)) returns)

@@ -17,9 +17,6 @@ Inv-loop a₀ b₀ c₀ d₀ ahead w h y₀ a b c d y = (y ≤ h) × (length a �
 abbrev μ-loop : tie.MeasureT-loop
 μ-loop a₀ b₀ c₀ d₀ ahead w h y₀ a b c d y = h - y
 
-shared-slice-read-y : tie.Need-shared-slice-read-y Inv-loop μ-loop
-shared-slice-read-y c = omega (arith, c .before .before .before .before .before .before .pre .1 .long)
-
 loop-holds : tie.Need-loop-holds Inv-loop μ-loop
 loop-holds c =
     let b6 = c .before .before .before .before .before .before in let pre = b6 .pre in (
@@ -34,11 +31,6 @@ loop-holds c =
       empty-start _ _ _ _
           (pre .0) (pre .5),
     )
-
-add-put : tie.Need-add-put Inv-loop μ-loop
-add-put c =
-    let b10 = c .before .before .before .before .before .before .before .before .before .before in
-    omega (arith, b10 .pre .0 .h-max, c .before .before .loop-test .taken)
 
 put-requires : tie.Need-put-requires Inv-loop μ-loop
 put-requires c κs =
@@ -133,6 +125,7 @@ returns c =
 pub empty-spec : {M : Type 1} → statement M
 empty-spec =
     tie.close
-    (tie.spec Inv-loop μ-loop shared-slice-read-y loop-holds (λ c κs. search needs) add-put put-requires add-put-2 put-requires-2 add-put-3 put-requires-3
-    add-put-4 put-requires-4 add-y mul-y shared-slice-read-y-2 loop-less loop-again (λ c. c .before .loop .inv .1) (λ c. c .before .loop .inv .2)
+    (tie.spec Inv-loop μ-loop (λ c. omega (arith, c .before .before .before .before .before .before .pre .1 .long)) loop-holds (λ c κs. search needs)
+    (λ c. let b10 = c .before .before .before .before .before .before .before .before .before .before in omega (arith, b10 .pre .0 .h-max, c .before .before .loop-test .taken)) put-requires add-put-2
+    put-requires-2 add-put-3 put-requires-3 add-put-4 put-requires-4 add-y mul-y shared-slice-read-y-2 loop-less loop-again (λ c. c .before .loop .inv .1) (λ c. c .before .loop .inv .2)
     (λ c. c .before .loop .inv .3) (λ c. c .before .loop .inv .4) returns)

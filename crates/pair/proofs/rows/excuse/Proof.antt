@@ -19,25 +19,6 @@ loop-holds c =
     let p = c .before .before .before .before .pre in
     (p .1 .on 0 (omega arith) .1, excused-start _ _ _ _ _ (p .0) (p .2) (p .3) (p .4) _)
 
-add-y : tie.Need-add-y Inv-loop μ-loop
-add-y c = omega (arith, c .before .before .before .before .before .before .pre .0 .h-max, c .loop-test .taken)
-
-mul-y : tie.Need-mul-y Inv-loop μ-loop
-mul-y c = omega (arith, c .before .before .before .before .before .before .pre .0 .h-max, c .loop-test .taken)
-
-shared-slice-read-y-2 : tie.Need-shared-slice-read-y-2 Inv-loop μ-loop
-shared-slice-read-y-2 c =
-    let p = c .before .before .before .before .before .before .before .pre in
-    omega (arith, p .1 .long, p .0 .h-max, c .before .loop-test .taken)
-
-add-row : tie.Need-add-row Inv-loop μ-loop
-add-row c = omega (arith, c .before .before .before .before .before .before .before .pre .0 .h-max, c .before .loop-test .taken)
-
-row-requires : tie.Need-row-requires Inv-loop μ-loop
-row-requires c κs =
-    let p = c .before .before .before .before .before .before .before .pre in
-    (p .2 .ready .long, omega (arith, p .0 .h-max, c .before .loop-test .taken))
-
 mul-excuse-row : tie.Need-mul-excuse-row Inv-loop μ-loop
 mul-excuse-row c =
     let p = c .before .before .before .before .before .before .before .before .before .before .before .pre in
@@ -100,6 +81,10 @@ returns c =
 pub excuse-spec : {M : Type 1} → statement M
 excuse-spec =
     tie.close
-    (tie.spec Inv-loop μ-loop (λ c. omega (arith, c .before .before .before .before .pre .1 .long)) loop-holds add-y mul-y shared-slice-read-y-2 add-row
-    row-requires (λ c κs. search needs) mul-excuse-row excuse-row-requires loop-less loop-again loop-less-2 loop-again-2
-    (λ c. c .before .loop .inv .1 .long) returns)
+    (tie.spec Inv-loop μ-loop (λ c. omega (arith, c .before .before .before .before .pre .1 .long)) loop-holds
+    (λ c. omega (arith, c .before .before .before .before .before .before .pre .0 .h-max, c .loop-test .taken))
+    (λ c. omega (arith, c .before .before .before .before .before .before .pre .0 .h-max, c .loop-test .taken))
+    (λ c. let p = c .before .before .before .before .before .before .before .pre in omega (arith, p .1 .long, p .0 .h-max, c .before .loop-test .taken))
+    (λ c. omega (arith, c .before .before .before .before .before .before .before .pre .0 .h-max, c .before .loop-test .taken))
+    (λ c κs. let p = c .before .before .before .before .before .before .before .pre in (p .2 .ready .long, omega (arith, p .0 .h-max, c .before .loop-test .taken))) (λ c κs. search needs)
+    mul-excuse-row excuse-row-requires loop-less loop-again loop-less-2 loop-again-2 (λ c. c .before .loop .inv .1 .long) returns)

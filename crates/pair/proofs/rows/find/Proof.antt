@@ -22,12 +22,6 @@ Inv-loop low up left₀ seed₀ ahead₀ w h n last₀ y₀ left seed ahead last
 abbrev μ-loop : tie.MeasureT-loop
 μ-loop low up left₀ seed₀ ahead₀ w h n last₀ y₀ left seed ahead last y = y
 
-mul-ahead : tie.Need-mul-ahead Inv-loop μ-loop
-mul-ahead c = omega (arith, c .before .before .before .before .before .pre .0 .0 .h-max)
-
-slice-write-ahead : tie.Need-slice-write-ahead Inv-loop μ-loop
-slice-write-ahead c = omega (arith, c .before .before .before .before .before .pre .1 .2, c .before .before .before .before .before .pre .0 .0 .h-max)
-
 loop-holds : tie.Need-loop-holds Inv-loop μ-loop
 loop-holds c =
     let b5 = c .before .before .before .before .before in let args = b5 .args in let pre = b5 .pre in
@@ -77,9 +71,6 @@ loop-again c =
       sym (getD-set-same (b8 .loop .ahead) (b8 .loop .y - 1) (b4 .find-row .result) 0 (omega (arith, b8 .loop .inv .3, z .h-max))),
     )
 
-same-length-3 : tie.Need-same-length-3 Inv-loop μ-loop
-same-length-3 c = c .before .loop .inv .3 ∙ sym (c .before .before .before .before .before .before .before .pre .1 .2)
-
 returns : tie.Need-returns Inv-loop μ-loop
 returns c =
     let b7 = c .before .before .before .before .before .before .before in
@@ -94,5 +85,7 @@ returns c =
 pub find-spec : {M : Type 1} → statement M
 find-spec =
     tie.close
-    (tie.spec Inv-loop μ-loop mul-ahead slice-write-ahead loop-holds (λ c. search needs) find-row-requires (λ c. search needs) slice-write-ahead-2
-    (λ c. search needs) loop-again (λ c. c .before .loop .inv .1) (λ c. c .before .loop .inv .2) same-length-3 returns)
+    (tie.spec Inv-loop μ-loop (λ c. omega (arith, c .before .before .before .before .before .pre .0 .0 .h-max))
+    (λ c. omega (arith, c .before .before .before .before .before .pre .1 .2, c .before .before .before .before .before .pre .0 .0 .h-max)) loop-holds (λ c. search needs) find-row-requires
+    (λ c. search needs) slice-write-ahead-2 (λ c. search needs) loop-again (λ c. c .before .loop .inv .1) (λ c. c .before .loop .inv .2)
+    (λ c. c .before .loop .inv .3 ∙ sym (c .before .before .before .before .before .before .before .pre .1 .2)) returns)

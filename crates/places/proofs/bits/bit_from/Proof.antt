@@ -34,5 +34,4 @@ returns-3 c = least-none _ _ _ (search needs) (λ y l b. c .before .loop .inv .2
 pub bit-from-spec : {M : Type 1} → statement M
 bit-from-spec =
     tie.close
-    (tie.spec Inv-loop μ-loop returns (λ c. (search needs, search needs, λ y l b. absurd (omega arith))) (λ c κs. search needs) returns-2
-    (λ c. search needs) (λ c. search needs) loop-again returns-3)
+    (tie.spec Inv-loop μ-loop returns (λ c. (search needs, search needs, λ y l b. absurd (omega arith))) (λ c κs. search needs) returns-2 (λ c. search needs) (λ c. search needs) loop-again returns-3)

@@ -30,5 +30,4 @@ returns c = λ e i l. c .before .loop .inv .1 (eqb-true _ 0 e) i (omega arith)
 pub apart-spec : {M : Type 1} → statement M
 apart-spec =
     tie.close
-    (tie.spec Inv-loop μ-loop (λ c. (omega arith, λ e i l. absurd (omega arith))) (λ c. search needs) (λ c. search needs) (λ c. search needs)
-    (λ c. search needs) loop-again returns)
+    (tie.spec Inv-loop μ-loop (λ c. (omega arith, λ e i l. absurd (omega arith))) (λ c. search needs) (λ c. search needs) (λ c. search needs) (λ c. search needs) loop-again returns)

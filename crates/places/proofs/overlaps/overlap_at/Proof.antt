@@ -19,12 +19,6 @@ Inv-loop part sup w h n bytes area at₀ x₀ i₀ at x i = (i ≤ n) × (at ≡
 abbrev μ-loop : tie.MeasureT-loop
 μ-loop part sup w h n bytes area at₀ x₀ i₀ at x i = n - i
 
-mul-bytes : tie.Need-mul-bytes Inv-loop μ-loop
-mul-bytes c = omega (arith, bytes-fit _ _ _ (c .before .before .before .pre .0 .0) (c .row-bytes .ensures .1))
-
-mul-area : tie.Need-mul-area Inv-loop μ-loop
-mul-area c = omega (arith, area-fit _ _ (c .before .before .before .pre .0 .0))
-
 loop-holds : tie.Need-loop-holds Inv-loop μ-loop
 loop-holds c = (omega arith, omega arith, omega arith, λ y a b. absurd (omega arith))
 
@@ -116,6 +110,6 @@ returns-2 c =
 pub overlap-at-spec : {M : Type 1} → statement M
 overlap-at-spec =
     tie.close
-    (tie.spec Inv-loop μ-loop (λ c κs. search needs) mul-bytes mul-area loop-holds add-end (λ c. search needs) (λ c. search needs) part-overlap-plane-end
-    (λ c. search needs) (λ c. search needs) part-overlap-plane-end-2 overlap-plane-requires add-result returns add-x (λ c. search needs)
-    (λ c. search needs) loop-again returns-2)
+    (tie.spec Inv-loop μ-loop (λ c κs. search needs) (λ c. omega (arith, bytes-fit _ _ _ (c .before .before .before .pre .0 .0) (c .row-bytes .ensures .1)))
+    (λ c. omega (arith, area-fit _ _ (c .before .before .before .pre .0 .0))) loop-holds add-end (λ c. search needs) (λ c. search needs) part-overlap-plane-end (λ c. search needs) (λ c. search needs)
+    part-overlap-plane-end-2 overlap-plane-requires add-result returns add-x (λ c. search needs) (λ c. search needs) loop-again returns-2)

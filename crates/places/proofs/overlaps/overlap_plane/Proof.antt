@@ -17,16 +17,10 @@ Inv-loop part sup w h rb at₀ x₀ row₀ at x row = (row ≤ h) × (at ≡ row
 abbrev μ-loop : tie.MeasureT-loop
 μ-loop part sup w h rb at₀ x₀ row₀ at x row = h - row
 
-mul-apart : tie.Need-mul-apart Inv-loop μ-loop
-mul-apart c = omega (arith, bytes-fit _ _ _ (c .before .before .before .pre .0) (c .row-bytes .ensures .1))
-
 apart-requires : tie.Need-apart-requires Inv-loop μ-loop
 apart-requires c κs =
     let b3 = c .before .before .before in
     (omega (arith, plane-bytes _ (b3 .args .h) _ _ (c .row-bytes .ensures .0) (b3 .pre .1 .0)), omega (arith, plane-bytes _ (b3 .args .h) _ _ (c .row-bytes .ensures .0) (b3 .pre .1 .1)))
-
-mul-result : tie.Need-mul-result Inv-loop μ-loop
-mul-result c = omega (arith, area-fit _ _ (c .before .before .before .before .before .pre .0))
 
 returns : tie.Need-returns Inv-loop μ-loop
 returns c =
@@ -97,5 +91,6 @@ returns-3 c =
 pub overlap-plane-spec : {M : Type 1} → statement M
 overlap-plane-spec =
     tie.close
-    (tie.spec Inv-loop μ-loop (λ c κs. search needs) mul-apart apart-requires mul-result returns loop-holds overlap-row-requires add-result returns-2
-    add-at add-x (λ c. search needs) (λ c. search needs) loop-again returns-3)
+    (tie.spec Inv-loop μ-loop (λ c κs. search needs) (λ c. omega (arith, bytes-fit _ _ _ (c .before .before .before .pre .0) (c .row-bytes .ensures .1))) apart-requires
+    (λ c. omega (arith, area-fit _ _ (c .before .before .before .before .before .pre .0))) returns loop-holds overlap-row-requires add-result returns-2 add-at add-x (λ c. search needs)
+    (λ c. search needs) loop-again returns-3)

@@ -51,6 +51,5 @@ returns-2 c = least-none 0 (c .before .before .before .before .args .w) _ (omega
 pub overlap-row-spec : {M : Type 1} → statement M
 overlap-row-spec =
     tie.close
-    (tie.spec Inv-loop μ-loop (λ c. (search needs, search needs, λ y l a. absurd (omega arith))) (λ c. search needs) (λ c κs. search needs)
-    shared-slice-read-bit-from shared-slice-read-bit-from-2 (λ c κs. search needs) (λ c. search needs) returns (λ c. search needs) add-b
-    (λ c. search needs) loop-again returns-2)
+    (tie.spec Inv-loop μ-loop (λ c. (search needs, search needs, λ y l a. absurd (omega arith))) (λ c. search needs) (λ c κs. search needs) shared-slice-read-bit-from shared-slice-read-bit-from-2
+    (λ c κs. search needs) (λ c. search needs) returns (λ c. search needs) add-b (λ c. search needs) loop-again returns-2)

@@ -204,8 +204,7 @@ returns c =
 pub layer-at-spec : {M : Type 1} → statement M
 layer-at-spec =
     tie.close
-    (tie.spec mul-size mul-area mul-a add-m mul-x (λ c. search needs) (λ c. search needs) part-layer-end add-layer (λ c. search needs) (λ c. search needs)
-    part-layer-end-2 (λ c. search needs) (λ c. search needs) part-layer-end-3 add-layer-2 mul-layer (λ c. search needs) (λ c. search needs)
-    part-layer-end-4 layer-requires (λ c. search needs) (λ c. search needs) part-put-end put-requires same-length same-length-2
-    (λ c. c .before .before .put .kept .1 .0) (λ c. search needs) (λ c. search needs) (λ c. search needs) (λ c. search needs) (λ c. search needs)
+    (tie.spec mul-size mul-area mul-a add-m mul-x (λ c. search needs) (λ c. search needs) part-layer-end add-layer (λ c. search needs) (λ c. search needs) part-layer-end-2 (λ c. search needs)
+    (λ c. search needs) part-layer-end-3 add-layer-2 mul-layer (λ c. search needs) (λ c. search needs) part-layer-end-4 layer-requires (λ c. search needs) (λ c. search needs) part-put-end
+    put-requires same-length same-length-2 (λ c. c .before .before .put .kept .1 .0) (λ c. search needs) (λ c. search needs) (λ c. search needs) (λ c. search needs) (λ c. search needs)
     (λ c. search needs) (λ c. search needs) returns)

@@ -16,9 +16,6 @@ Inv-loop part support₀ rings₀ above₀ left₀ got₀ front₀ next₀ seed�
 abbrev μ-loop : tie.MeasureT-loop
 μ-loop part support₀ rings₀ above₀ left₀ got₀ front₀ next₀ seed₀ lower₀ ahead₀ w h n rb q half ones i₀ support rings above left got front next seed lower ahead i = i
 
-sub-i : tie.Need-sub-i Inv-loop μ-loop
-sub-i c = omega (arith, c .before .before .before .before .before .before .before .before .before .before .before .before .before .pre .0 .2)
-
 loop-holds : tie.Need-loop-holds Inv-loop μ-loop
 loop-holds c =
     let b13 = c .before .before .before .before .before .before .before .before .before .before .before .before .before in
@@ -107,6 +104,6 @@ returns c =
 pub layers-spec : {M : Type 1} → statement M
 layers-spec =
     tie.close
-    (tie.spec Inv-loop μ-loop sub-i loop-holds (λ c. omega (arith, c .loop-test .taken)) layer-at-requires loop-less loop-again
-    (λ c. c .before .loop .inv .0) (λ c. c .before .loop .inv .1) (λ c. c .before .loop .inv .2) same-length-4 same-length-5 same-length-6 same-length-7
-    same-length-8 same-length-9 same-length-10 returns)
+    (tie.spec Inv-loop μ-loop (λ c. omega (arith, c .before .before .before .before .before .before .before .before .before .before .before .before .before .pre .0 .2)) loop-holds
+    (λ c. omega (arith, c .loop-test .taken)) layer-at-requires loop-less loop-again (λ c. c .before .loop .inv .0) (λ c. c .before .loop .inv .1) (λ c. c .before .loop .inv .2) same-length-4
+    same-length-5 same-length-6 same-length-7 same-length-8 same-length-9 same-length-10 returns)

@@ -15,9 +15,6 @@ Inv-loop from to₀ i₀ to i =
 abbrev μ-loop : tie.MeasureT-loop
 μ-loop from to₀ i₀ to i = length from - i
 
-slice-write-to : tie.Need-slice-write-to Inv-loop μ-loop
-slice-write-to c = omega (arith, c .before .loop-test .taken, c .before .before .loop .inv .0, c .before .before .before .pre)
-
 loop-again : tie.Need-loop-again Inv-loop μ-loop
 loop-again c =
     let b3 = c .before .before .before in
@@ -38,5 +35,6 @@ returns c =
 pub put-spec : {M : Type 1} → statement M
 put-spec =
     tie.close
-    (tie.spec Inv-loop μ-loop (λ c. (refl, omega arith, λ k x. absurd (omega arith))) (λ c. search needs) slice-write-to (λ c. search needs)
-    (λ c. omega (arith, c .before .loop-test .taken)) loop-again (λ c. c .before .loop .inv .0) returns)
+    (tie.spec Inv-loop μ-loop (λ c. (refl, omega arith, λ k x. absurd (omega arith))) (λ c. search needs)
+    (λ c. omega (arith, c .before .loop-test .taken, c .before .before .loop .inv .0, c .before .before .before .pre)) (λ c. search needs) (λ c. omega (arith, c .before .loop-test .taken)) loop-again
+    (λ c. c .before .loop .inv .0) returns)

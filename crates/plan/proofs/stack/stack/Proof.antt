@@ -8,16 +8,6 @@ use borrow.Author.Needs.{needs}
 use Rattle.plan.proofs.stack.stack.Statement.{statement}
 use Rattle.plan.proofs.stack.stack.Tie as tie
 
-mul-size : tie.Need-mul-size
-mul-size c =
-    let b3 = c .before .before .before in
-    omega (arith, plane-size (b3 .args .w) (b3 .args .h) (b3 .args .rb) (b3 .pre .0 .0))
-
-array-share-prefix-above : tie.Need-array-share-prefix-above
-array-share-prefix-above c =
-    let b4 = c .before .before .before .before in
-    plane-size (b4 .args .w) (b4 .args .h) (b4 .args .rb) (b4 .pre .0 .0) .1
-
 slice-aggregate-top : tie.Need-slice-aggregate-top
 slice-aggregate-top c =
     let b5 = c .before .before .before .before .before in let args = b5 .args in
@@ -73,7 +63,7 @@ same-length c =
 pub stack-spec : {M : Type 1} → statement M
 stack-spec =
     tie.close
-    (tie.spec mul-size array-share-prefix-above slice-aggregate-top top-requires (λ c. search needs) (λ c κs. search needs) (λ c. search needs)
-    (λ c κs. search needs) array-borrow-prefix-above slice-aggregate-layers (λ c. search needs) (λ c. search needs) (λ c. search needs)
-    (λ c. search needs) (λ c. search needs) (λ c. search needs) (λ c. search needs) (λ c. search needs) (λ c. search needs) layers-requires same-length
-    (λ c. search needs) (λ c. search needs))
+    (tie.spec (λ c. let b3 = c .before .before .before in omega (arith, plane-size (b3 .args .w) (b3 .args .h) (b3 .args .rb) (b3 .pre .0 .0)))
+    (λ c. let b4 = c .before .before .before .before in plane-size (b4 .args .w) (b4 .args .h) (b4 .args .rb) (b4 .pre .0 .0) .1) slice-aggregate-top top-requires (λ c. search needs)
+    (λ c κs. search needs) (λ c. search needs) (λ c κs. search needs) array-borrow-prefix-above slice-aggregate-layers (λ c. search needs) (λ c. search needs) (λ c. search needs) (λ c. search needs)
+    (λ c. search needs) (λ c. search needs) (λ c. search needs) (λ c. search needs) (λ c. search needs) layers-requires same-length (λ c. search needs) (λ c. search needs))

@@ -9,11 +9,6 @@ use borrow.Author.Needs.{needs}
 use Rattle.plan.proofs.stack.top.Statement.{statement}
 use Rattle.plan.proofs.stack.top.Tie as tie
 
-mul-size : tie.Need-mul-size
-mul-size c =
-    let b2 = c .before .before in
-    omega (arith, plane-size (b2 .args .w) (b2 .args .h) (b2 .args .rb) (b2 .pre .0 .0))
-
 mul-a : tie.Need-mul-a
 mul-a c =
     let b2 = c .before .before in
@@ -66,4 +61,5 @@ returns c =
 pub top-spec : {M : Type 1} → statement M
 top-spec =
     tie.close
-    (tie.spec mul-size (λ c. search needs) mul-a add-put (λ c. search needs) (λ c. search needs) part-put-end put-requires same-length returns)
+    (tie.spec (λ c. let b2 = c .before .before in omega (arith, plane-size (b2 .args .w) (b2 .args .h) (b2 .args .rb) (b2 .pre .0 .0))) (λ c. search needs) mul-a add-put (λ c. search needs)
+    (λ c. search needs) part-put-end put-requires same-length returns)

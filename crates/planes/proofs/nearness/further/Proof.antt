@@ -6,21 +6,10 @@ use borrow.Author.Needs.{needs}
 use Rattle.planes.proofs.nearness.further.Statement.{statement}
 use Rattle.planes.proofs.nearness.further.Tie as tie
 
-shared-slice-read-by : tie.Need-shared-slice-read-by
-shared-slice-read-by c = omega (arith, c .before .before .before .pre .7 .long, c .before .before .before .pre .4)
-
-shared-slice-read-by-2 : tie.Need-shared-slice-read-by-2
-shared-slice-read-by-2 c = omega (arith, c .before .before .before .before .pre .7 .long, c .before .before .before .before .pre .4)
-
 sub-by-2 : tie.Need-sub-by-2
 sub-by-2 c =
     let b4 = c .before .before .before .before in let pre = b4 .pre in
     omega (arith, half-is _ _ _ (pre .7) (pre .5), half-is _ _ _ (pre .7) (before-in _ _ (pre .5)), half-less (b4 .args .q .0) (b4 .args .d) (pre .3) (pre .5))
-
-widen-requires : tie.Need-widen-requires
-widen-requires c κs =
-    let b4 = c .before .before .before .before in
-    omega (arith, half-is _ _ _ (b4 .pre .7) (before-in _ _ (b4 .pre .5)), half-max (b4 .args .q .0) (b4 .args .d - 1) (b4 .pre .6))
 
 returns : tie.Need-returns
 returns c =
@@ -32,5 +21,7 @@ returns c =
 pub further-spec : {M : Type 1} → statement M
 further-spec =
     tie.close
-    (tie.spec (λ c. search needs) (λ c. search needs) shared-slice-read-by (λ c. search needs) shared-slice-read-by-2 sub-by-2 widen-requires
+    (tie.spec (λ c. search needs) (λ c. search needs) (λ c. omega (arith, c .before .before .before .pre .7 .long, c .before .before .before .pre .4)) (λ c. search needs)
+    (λ c. omega (arith, c .before .before .before .before .pre .7 .long, c .before .before .before .before .pre .4)) sub-by-2
+    (λ c κs. let b4 = c .before .before .before .before in omega (arith, half-is _ _ _ (b4 .pre .7) (before-in _ _ (b4 .pre .5)), half-max (b4 .args .q .0) (b4 .args .d - 1) (b4 .pre .6)))
     (λ c. search needs) (λ c κs. search needs) (λ c. search needs) (λ c κs. search needs) (λ c κs. search needs) (λ c κs. search needs) returns)

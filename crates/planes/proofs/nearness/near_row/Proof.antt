@@ -19,11 +19,6 @@ abbrev μ-loop : tie.MeasureT-loop
 loop-holds : tie.Need-loop-holds Inv-loop μ-loop
 loop-holds c = (omega arith, half-root _ _ (c .before .before .before .before .pre .3), near-own _ _ _ _ (c .row .ensures))
 
-add-d : tie.Need-add-d Inv-loop μ-loop
-add-d c =
-    let b6 = c .before .before .before .before .before .before in
-    omega (arith, c .loop-test .taken, half-root _ _ (b6 .pre .3), root-small (b6 .args .q .0) (b6 .pre .2))
-
 further-requires : tie.Need-further-requires Inv-loop μ-loop
 further-requires c κs =
     let b6 = c .before .before .before .before .before .before in let pre = b6 .pre in (
@@ -42,11 +37,6 @@ loop-again : tie.Need-loop-again Inv-loop μ-loop
 loop-again c =
     let e : c .before .before .loop .d + 1 - 1 ≡ c .before .before .loop .d = omega arith in
     (omega (arith, c .before .loop-test .taken), c .before .before .loop .inv .1, c .further .ensures (rw e (c .before .before .loop .inv .2)))
-
-mul-t10 : tie.Need-mul-t10 Inv-loop μ-loop
-mul-t10 c =
-    let b6 = c .before .before .before .before .before .before in
-    omega (arith, c .before .loop .inv .0, half-root _ _ (b6 .pre .3), root-small (b6 .args .q .0) (b6 .pre .2))
 
 shared-slice-read-t13 : tie.Need-shared-slice-read-t13 Inv-loop μ-loop
 shared-slice-read-t13 c =
@@ -74,5 +64,8 @@ returns c =
 pub near-row-spec : {M : Type 1} → statement M
 near-row-spec =
     tie.close
-    (tie.spec Inv-loop μ-loop (λ c. omega (arith, c .before .before .before .pre .3 .long)) (λ c. search needs) (λ c κs. search needs) loop-holds add-d
-    further-requires (λ c. omega (arith, c .before .loop-test .taken)) loop-again mul-t10 shared-slice-read-t13 widen-requires returns)
+    (tie.spec Inv-loop μ-loop (λ c. omega (arith, c .before .before .before .pre .3 .long)) (λ c. search needs) (λ c κs. search needs) loop-holds
+    (λ c. let b6 = c .before .before .before .before .before .before in omega (arith, c .loop-test .taken, half-root _ _ (b6 .pre .3), root-small (b6 .args .q .0) (b6 .pre .2))) further-requires
+    (λ c. omega (arith, c .before .loop-test .taken)) loop-again
+    (λ c. let b6 = c .before .before .before .before .before .before in omega (arith, c .before .loop .inv .0, half-root _ _ (b6 .pre .3), root-small (b6 .args .q .0) (b6 .pre .2)))
+    shared-slice-read-t13 widen-requires returns)

@@ -19,9 +19,6 @@ abbrev μ-loop : tie.MeasureT-loop
 loop-holds : tie.Need-loop-holds Inv-loop μ-loop
 loop-holds c = (omega arith, c .before .before .before .pre .1 .1 .long, c .before .before .before .pre .1 .1 .framed, λ y k l. absurd (omega arith))
 
-add-put : tie.Need-add-put Inv-loop μ-loop
-add-put c = omega (arith, c .before .before .before .before .before .before .pre .0 .h-high)
-
 mul-read : tie.Need-mul-read Inv-loop μ-loop
 mul-read c =
     let b3 = c .before .before .before in let b6 = b3 .before .before .before in
@@ -33,14 +30,6 @@ read-requires c κs =
       row-room (b6 .args .w) (b6 .args .h) (c .before .before .loop .r) (b3 .row-bytes .result) _ (omega arith) (b3 .row-bytes .ensures .0) (omega (arith, b6 .pre .1 .0 .long)),
       b3 .row-bytes .ensures .1,
     )
-
-put-requires : tie.Need-put-requires Inv-loop μ-loop
-put-requires c κs =
-    let b3 = c .before .before .before in let b7 = b3 .before .before .before .before in
-    (b3 .loop .inv .1, omega (arith, b7 .pre .0 .h-high))
-
-add-r : tie.Need-add-r Inv-loop μ-loop
-add-r c = omega (arith, c .before .before .before .before .before .before .before .before .before .before .pre .0 .h-high)
 
 loop-again : tie.Need-loop-again Inv-loop μ-loop
 loop-again c =
@@ -63,5 +52,6 @@ returns c =
 pub read-spec : {M : Type 1} → statement M
 read-spec =
     tie.close
-    (tie.spec Inv-loop μ-loop (λ c κs. search needs) loop-holds add-put mul-read read-requires put-requires add-r (λ c. search needs) loop-again
-    (λ c. search needs) returns)
+    (tie.spec Inv-loop μ-loop (λ c κs. search needs) loop-holds (λ c. omega (arith, c .before .before .before .before .before .before .pre .0 .h-high)) mul-read read-requires
+    (λ c κs. let b3 = c .before .before .before in let b7 = b3 .before .before .before .before in (b3 .loop .inv .1, omega (arith, b7 .pre .0 .h-high)))
+    (λ c. omega (arith, c .before .before .before .before .before .before .before .before .before .before .pre .0 .h-high)) (λ c. search needs) loop-again (λ c. search needs) returns)

@@ -18,25 +18,6 @@ abbrev μ-loop : tie.MeasureT-loop
 loop-holds : tie.Need-loop-holds Inv-loop μ-loop
 loop-holds c = (omega arith, (λ e i l. absurd (omega arith)), λ e i l. absurd (omega arith))
 
-shared-slice-read-shadow : tie.Need-shared-slice-read-shadow Inv-loop μ-loop
-shared-slice-read-shadow c = omega (arith, c .before .before .before .before .before .before .before .pre .low-long)
-
-shared-slice-read-shadow-2 : tie.Need-shared-slice-read-shadow-2 Inv-loop μ-loop
-shared-slice-read-shadow-2 c = omega (arith, c .before .before .before .before .before .before .before .before .pre .up-long)
-
-shared-slice-read-hanging : tie.Need-shared-slice-read-hanging Inv-loop μ-loop
-shared-slice-read-hanging c = omega (arith, c .before .before .before .before .before .before .before .before .before .before .pre .low-long)
-
-shared-slice-read-hanging-2 : tie.Need-shared-slice-read-hanging-2 Inv-loop μ-loop
-shared-slice-read-hanging-2 c =
-    let b11 = c .before .before .before .before .before .before .before .before .before .before .before in
-    omega (arith, b11 .pre .below-long)
-
-shared-slice-read-hanging-3 : tie.Need-shared-slice-read-hanging-3 Inv-loop μ-loop
-shared-slice-read-hanging-3 c =
-    let b12 = c .before .before .before .before .before .before .before .before .before .before .before .before in
-    omega (arith, b12 .pre .above-long)
-
 loop-again : tie.Need-loop-again Inv-loop μ-loop
 loop-again c =
     let b4 = c .before .before .before .before in let b8 = b4 .before .before .before .before in let b13 = b8 .before .before .before .before .before in
@@ -53,5 +34,9 @@ returns c = let l = c .before .loop in ((λ e i h. l .inv .1 e i (omega arith)),
 pub look-spec : {M : Type 1} → statement M
 look-spec =
     tie.close
-    (tie.spec Inv-loop μ-loop loop-holds shared-slice-read-shadow shared-slice-read-shadow-2 (λ c κs. search needs) shared-slice-read-hanging
-    shared-slice-read-hanging-2 shared-slice-read-hanging-3 (λ c κs. search needs) (λ c. search needs) (λ c. search needs) loop-again returns)
+    (tie.spec Inv-loop μ-loop loop-holds (λ c. omega (arith, c .before .before .before .before .before .before .before .pre .low-long))
+    (λ c. omega (arith, c .before .before .before .before .before .before .before .before .pre .up-long)) (λ c κs. search needs)
+    (λ c. omega (arith, c .before .before .before .before .before .before .before .before .before .before .pre .low-long))
+    (λ c. let b11 = c .before .before .before .before .before .before .before .before .before .before .before in omega (arith, b11 .pre .below-long))
+    (λ c. let b12 = c .before .before .before .before .before .before .before .before .before .before .before .before in omega (arith, b12 .pre .above-long)) (λ c κs. search needs)
+    (λ c. search needs) (λ c. search needs) loop-again returns)

@@ -28,5 +28,4 @@ returns-2 c =
 pub near-all-spec : {M : Type 1} → statement M
 near-all-spec =
     tie.close
-    (tie.spec (λ c κs. search needs) returns (λ c κs. search needs) near-row-requires (λ c κs. search needs) (λ c κs. search needs) (λ c. search needs)
-    returns-2)
+    (tie.spec (λ c κs. search needs) returns (λ c κs. search needs) near-row-requires (λ c κs. search needs) (λ c κs. search needs) (λ c. search needs) returns-2)

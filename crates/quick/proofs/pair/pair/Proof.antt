@@ -17,24 +17,10 @@ use borrow.Author.Needs.{needs}
 use Rattle.quick.proofs.pair.pair.Statement.{statement}
 use Rattle.quick.proofs.pair.pair.Tie as tie
 
-row-bytes-requires : tie.Need-row-bytes-requires
-row-bytes-requires c κs = c .before .before .before .before .before .before .before .pre .0 .0 .0 .w-high
-
 mul-look : tie.Need-mul-look
 mul-look c =
     let b8 = c .before .before .before .before .before .before .before .before in
     omega (arith, bytes-fit (b8 .args .w) (b8 .args .h) (c .row-bytes .result) (b8 .pre .0 .0 .0) (c .row-bytes .ensures .1))
-
-look-requires : tie.Need-look-requires
-look-requires c κs = rw (c .row-bytes .ensures .0) (c .before .before .before .before .before .before .before .before .pre .1 .0)
-
-mul-quiet : tie.Need-mul-quiet
-mul-quiet c =
-    let b11 = c .before .before .before .before .before .before .before .before .before .before .before in
-    omega (arith, area-fit (b11 .args .w) (b11 .args .h) (b11 .pre .0 .0 .0))
-
-quiet-requires : tie.Need-quiet-requires
-quiet-requires c κs = omega (arith, c .before .before .before .before .before .before .before .before .before .before .before .pre .0 .1 .1)
 
 returns : tie.Need-returns
 returns c =
@@ -76,4 +62,7 @@ returns-2 c =
 pub pair-spec : {M : Type 1} → statement M
 pair-spec =
     tie.close
-    (tie.spec row-bytes-requires mul-look look-requires mul-quiet quiet-requires returns shaded-pair-requires (λ c κs. search needs) returns-2)
+    (tie.spec (λ c κs. c .before .before .before .before .before .before .before .pre .0 .0 .0 .w-high) mul-look
+    (λ c κs. rw (c .row-bytes .ensures .0) (c .before .before .before .before .before .before .before .before .pre .1 .0))
+    (λ c. let b11 = c .before .before .before .before .before .before .before .before .before .before .before in omega (arith, area-fit (b11 .args .w) (b11 .args .h) (b11 .pre .0 .0 .0)))
+    (λ c κs. omega (arith, c .before .before .before .before .before .before .before .before .before .before .before .pre .0 .1 .1)) returns shaded-pair-requires (λ c κs. search needs) returns-2)

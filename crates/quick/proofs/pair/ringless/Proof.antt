@@ -10,20 +10,10 @@ use borrow.Author.Needs.{needs}
 use Rattle.quick.proofs.pair.ringless.Statement.{statement}
 use Rattle.quick.proofs.pair.ringless.Tie as tie
 
-mul-look : tie.Need-mul-look
-mul-look c =
-    let b5 = c .before .before .before .before .before in
-    omega (arith, bytes-fit (b5 .args .w) (b5 .args .h) (c .row-bytes .result) (b5 .pre .0) (c .row-bytes .ensures .1))
-
 look-requires : tie.Need-look-requires
 look-requires c κs =
     let L = c .before .before .before .before .before .pre .1 .0 in
     rw (c .row-bytes .ensures .0) (record { low-long = L .low-long; up-long = L .up-long; below-long = L .below-long; above-long = L .up-long })
-
-bare-requires : tie.Need-bare-requires
-bare-requires c κs =
-    let b6 = c .before .before .before .before .before .before in
-    (omega arith, omega (arith, b6 .pre .1 .1), area-fit (b6 .args .w) (b6 .args .h) (b6 .pre .0))
 
 returns : tie.Need-returns
 returns c =
@@ -38,4 +28,6 @@ returns c =
 pub ringless-spec : {M : Type 1} → statement M
 ringless-spec =
     tie.close
-    (tie.spec (λ c κs. search needs) mul-look look-requires bare-requires returns)
+    (tie.spec (λ c κs. search needs)
+    (λ c. let b5 = c .before .before .before .before .before in omega (arith, bytes-fit (b5 .args .w) (b5 .args .h) (c .row-bytes .result) (b5 .pre .0) (c .row-bytes .ensures .1))) look-requires
+    (λ c κs. let b6 = c .before .before .before .before .before .before in (omega arith, omega (arith, b6 .pre .1 .1), area-fit (b6 .args .w) (b6 .args .h) (b6 .pre .0))) returns)

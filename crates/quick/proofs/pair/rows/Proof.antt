@@ -24,11 +24,6 @@ Inv-loop low up below rings ones disc₀ halves w h q t held₀ drawn₀ from₀
 abbrev μ-loop : tie.MeasureT-loop
 μ-loop low up below rings ones disc₀ halves w h q t held₀ drawn₀ from₀ r₀ disc held drawn from r = h - r
 
-shaded-requires : tie.Need-shaded-requires Inv-loop μ-loop
-shaded-requires c κs =
-    let b7 = c .before .before .before .before .before .before .before in
-    (b7 .pre .0 .0, (omega arith, low-long (b7 .pre .0 .1 .1 .0)))
-
 loop-holds : tie.Need-loop-holds Inv-loop μ-loop
 loop-holds c =
     let b8 = c .before .before .before .before .before .before .before .before in
@@ -44,11 +39,6 @@ near-all-requires : tie.Need-near-all-requires Inv-loop μ-loop
 near-all-requires c κs =
     let b3 = c .before .before .before in let b12 = b3 .before .before .before .before .before .before .before .before .before in let pre = b12 .pre in
     (((pre .0 .0, omega arith), (pre .0 .1 .0, (pre .1 .0 .1, pre .1 .1 .1))), b3 .loop .inv .3)
-
-same-length : tie.Need-same-length Inv-loop μ-loop
-same-length c =
-    let b4 = c .before .before .before .before in let b8 = b4 .before .before .before .before in
-    b4 .near-all .kept .1 .0 ∙ b8 .loop .inv .2
 
 add-from : tie.Need-add-from Inv-loop μ-loop
 add-from c =
@@ -106,6 +96,6 @@ returns-2 c =
 pub rows-spec : {M : Type 1} → statement M
 rows-spec =
     tie.close
-    (tie.spec Inv-loop μ-loop shaded-requires loop-holds row-requires near-all-requires (λ c κs. search needs) same-length
-    (λ c. ((λ e. clash e refl), λ e. clash e refl)) (λ c κs. search needs) add-from shaded-requires-2 (λ c. search needs) loop-again bare-requires
-    (λ c. c .before .before .loop .inv .2) returns-2)
+    (tie.spec Inv-loop μ-loop (λ c κs. let b7 = c .before .before .before .before .before .before .before in (b7 .pre .0 .0, (omega arith, low-long (b7 .pre .0 .1 .1 .0)))) loop-holds row-requires
+    near-all-requires (λ c κs. search needs) (λ c. let b4 = c .before .before .before .before in let b8 = b4 .before .before .before .before in b4 .near-all .kept .1 .0 ∙ b8 .loop .inv .2)
+    (λ c. ((λ e. clash e refl), λ e. clash e refl)) (λ c κs. search needs) add-from shaded-requires-2 (λ c. search needs) loop-again bare-requires (λ c. c .before .before .loop .inv .2) returns-2)

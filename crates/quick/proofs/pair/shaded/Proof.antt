@@ -37,9 +37,6 @@ shadow-row-requires c κs =
       ),
     )
 
-add-r : tie.Need-add-r Inv-loop μ-loop
-add-r c = omega (arith, c .before .before .before .before .before .before .before .before .pre .0 .h-high)
-
 loop-again : tie.Need-loop-again Inv-loop μ-loop
 loop-again c =
     let b4 = c .before .before .before .before in let b5 = b4 .before in let b8 = b5 .before .before .before in
@@ -55,5 +52,5 @@ loop-again c =
 pub shaded-spec : {M : Type 1} → statement M
 shaded-spec =
     tie.close
-    (tie.spec Inv-loop μ-loop (λ c κs. search needs) loop-holds mul-shadow-row shadow-row-requires (λ c κs. search needs)
-    (λ c. c .before .before .before .before .loop .inv) add-r (λ c. search needs) loop-again (λ c. c .before .loop .inv))
+    (tie.spec Inv-loop μ-loop (λ c κs. search needs) loop-holds mul-shadow-row shadow-row-requires (λ c κs. search needs) (λ c. c .before .before .before .before .loop .inv)
+    (λ c. omega (arith, c .before .before .before .before .before .before .before .before .pre .0 .h-high)) (λ c. search needs) loop-again (λ c. c .before .loop .inv))

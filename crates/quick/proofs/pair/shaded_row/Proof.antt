@@ -84,9 +84,6 @@ row-requires c κs =
       ),
     )
 
-far-of-requires : tie.Need-far-of-requires
-far-of-requires c κs = c .before .before .row .kept .1 .1 .1 .1 .1 .0 ∙ length-replicate {A = ℕ} 4 0
-
 returns : tie.Need-returns
 returns c =
     let b3 = c .before .before .before in let b9 = b3 .before .before .before .before .before .before in let b10 = b9 .before in let b13 = b10 .before .before .before in
@@ -112,7 +109,7 @@ returns c =
 pub shaded-row-spec : {M : Type 1} → statement M
 shaded-row-spec =
     tie.close
-    (tie.spec (λ c κs. search needs) (λ c κs. search needs) (λ c. search needs) (λ c. search needs) (λ c κs. search needs) mul-seed-rows mul-seed-rows-2
-    mul-seed-rows-3 seed-rows-requires mul-shadow-row shadow-row-requires (λ c. search needs) (λ c κs. search needs) (λ c κs. search needs)
-    (λ c. search needs) (λ c κs. search needs) (λ c. search needs) mul-not-in not-in-requires (λ c κs. search needs) (λ c. search needs)
-    (λ c. search needs) (λ c. search needs) (λ c. search needs) row-requires (λ c. search needs) far-of-requires returns)
+    (tie.spec (λ c κs. search needs) (λ c κs. search needs) (λ c. search needs) (λ c. search needs) (λ c κs. search needs) mul-seed-rows mul-seed-rows-2 mul-seed-rows-3 seed-rows-requires
+    mul-shadow-row shadow-row-requires (λ c. search needs) (λ c κs. search needs) (λ c κs. search needs) (λ c. search needs) (λ c κs. search needs) (λ c. search needs) mul-not-in not-in-requires
+    (λ c κs. search needs) (λ c. search needs) (λ c. search needs) (λ c. search needs) (λ c. search needs) row-requires (λ c. search needs)
+    (λ c κs. c .before .before .row .kept .1 .1 .1 .1 .1 .0 ∙ length-replicate {A = ℕ} 4 0) returns)

@@ -14,9 +14,6 @@ Inv-loop low left₀ ahead w h q half y₀ left y = (y ≤ h) × (length left �
 abbrev μ-loop : tie.MeasureT-loop
 μ-loop low left₀ ahead w h q half y₀ left y = h - y
 
-shared-slice-read-y : tie.Need-shared-slice-read-y Inv-loop μ-loop
-shared-slice-read-y c = omega (arith, c .before .before .before .before .before .pre .1 .long)
-
 loop-holds : tie.Need-loop-holds Inv-loop μ-loop
 loop-holds c =
     let b5 = c .before .before .before .before .before in
@@ -26,17 +23,6 @@ drop-row-requires : tie.Need-drop-row-requires Inv-loop μ-loop
 drop-row-requires c κs =
     let b8 = c .before .before .before .before .before .before .before .before in let pre = b8 .pre in
     (pre .2 .long, c .before .before .loop .inv .1 ∙ pre .3 .ready .long, omega (arith, pre .0 .h-max), pre .4, pre .5)
-
-add-y : tie.Need-add-y Inv-loop μ-loop
-add-y c = omega (arith, c .before .before .before .before .before .before .before .before .before .before .before .pre .0 .h-max)
-
-mul-y : tie.Need-mul-y Inv-loop μ-loop
-mul-y c = omega (arith, c .before .before .before .before .before .before .before .before .before .before .before .pre .0 .h-max)
-
-shared-slice-read-y-2 : tie.Need-shared-slice-read-y-2 Inv-loop μ-loop
-shared-slice-read-y-2 c =
-    let b12 = c .before .before .before .before .before .before .before .before .before .before .before .before in
-    omega (arith, b12 .pre .1 .long, b12 .pre .0 .h-max)
 
 loop-less : tie.Need-loop-less Inv-loop μ-loop
 loop-less c =
@@ -61,5 +47,8 @@ returns c =
 pub drop-far-spec : {M : Type 1} → statement M
 drop-far-spec =
     tie.close
-    (tie.spec Inv-loop μ-loop shared-slice-read-y loop-holds drop-row-requires add-y mul-y shared-slice-read-y-2 loop-less loop-again
+    (tie.spec Inv-loop μ-loop (λ c. omega (arith, c .before .before .before .before .before .pre .1 .long)) loop-holds drop-row-requires
+    (λ c. omega (arith, c .before .before .before .before .before .before .before .before .before .before .before .pre .0 .h-max))
+    (λ c. omega (arith, c .before .before .before .before .before .before .before .before .before .before .before .pre .0 .h-max))
+    (λ c. let b12 = c .before .before .before .before .before .before .before .before .before .before .before .before in omega (arith, b12 .pre .1 .long, b12 .pre .0 .h-max)) loop-less loop-again
     (λ c. c .before .loop .inv .1) returns)

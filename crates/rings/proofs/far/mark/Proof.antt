@@ -21,39 +21,10 @@ Inv-loop front left marks₀ ahead w h some₀ y₀ marks some y = (y ≤ h) × 
 abbrev μ-loop : tie.MeasureT-loop
 μ-loop front left marks₀ ahead w h some₀ y₀ marks some y = h - y
 
-shared-slice-read-y : tie.Need-shared-slice-read-y Inv-loop μ-loop
-shared-slice-read-y c = omega (arith, c .before .before .before .before .before .pre .1 .long)
-
 loop-holds : tie.Need-loop-holds Inv-loop μ-loop
 loop-holds c =
     let b5 = c .before .before .before .before .before in let pre = b5 .pre in
     (pre .1 .on 0 (omega arith) .1, refl, mark-start _ _ _ _ _ _ (pre .0) (pre .3) (pre .4), λ e j l. fresh-none _ _ j (none-before _ _ j _ _ (pre .0) (pre .3) l))
-
-add-fresh-row : tie.Need-add-fresh-row Inv-loop μ-loop
-add-fresh-row c = omega (arith, c .before .before .before .before .before .before .before .pre .0 .h-max)
-
-fresh-row-requires : tie.Need-fresh-row-requires Inv-loop μ-loop
-fresh-row-requires c κs =
-    let b7 = c .before .before .before .before .before .before .before in
-    (b7 .pre .2 .long, b7 .pre .3 .ready .long, omega arith, omega (arith, b7 .pre .0 .h-max))
-
-add-put : tie.Need-add-put Inv-loop μ-loop
-add-put c = omega (arith, c .before .before .before .before .before .before .before .before .before .pre .0 .h-max)
-
-put-requires : tie.Need-put-requires Inv-loop μ-loop
-put-requires c κs =
-    let b3 = c .before .before .before in let b9 = b3 .before .before .before .before .before .before in
-    (b3 .loop .inv .1 ∙ b9 .pre .4 .ready .long, omega (arith, b9 .pre .0 .h-max))
-
-add-y : tie.Need-add-y Inv-loop μ-loop
-add-y c =
-    let b14 = c .before .before .before .before .before .before .before .before .before .before .before .before .before .before in
-    omega (arith, b14 .pre .0 .h-max)
-
-mul-y : tie.Need-mul-y Inv-loop μ-loop
-mul-y c =
-    let b14 = c .before .before .before .before .before .before .before .before .before .before .before .before .before .before in
-    omega (arith, b14 .pre .0 .h-max)
 
 shared-slice-read-y-2 : tie.Need-shared-slice-read-y-2 Inv-loop μ-loop
 shared-slice-read-y-2 c =
@@ -86,5 +57,12 @@ returns c =
 pub mark-spec : {M : Type 1} → statement M
 mark-spec =
     tie.close
-    (tie.spec Inv-loop μ-loop shared-slice-read-y loop-holds add-fresh-row fresh-row-requires add-put put-requires (λ c κs. search needs)
-    (λ c κs. search needs) add-y mul-y shared-slice-read-y-2 loop-less loop-again (λ c. c .before .loop .inv .1) returns)
+    (tie.spec Inv-loop μ-loop (λ c. omega (arith, c .before .before .before .before .before .pre .1 .long)) loop-holds
+    (λ c. omega (arith, c .before .before .before .before .before .before .before .pre .0 .h-max))
+    (λ c κs. let b7 = c .before .before .before .before .before .before .before in (b7 .pre .2 .long, b7 .pre .3 .ready .long, omega arith, omega (arith, b7 .pre .0 .h-max)))
+    (λ c. omega (arith, c .before .before .before .before .before .before .before .before .before .pre .0 .h-max))
+    (λ c κs. let b3 = c .before .before .before in let b9 = b3 .before .before .before .before .before .before in (b3 .loop .inv .1 ∙ b9 .pre .4 .ready .long, omega (arith, b9 .pre .0 .h-max)))
+    (λ c κs. search needs) (λ c κs. search needs)
+    (λ c. let b14 = c .before .before .before .before .before .before .before .before .before .before .before .before .before .before in omega (arith, b14 .pre .0 .h-max))
+    (λ c. let b14 = c .before .before .before .before .before .before .before .before .before .before .before .before .before .before in omega (arith, b14 .pre .0 .h-max)) shared-slice-read-y-2
+    loop-less loop-again (λ c. c .before .loop .inv .1) returns)

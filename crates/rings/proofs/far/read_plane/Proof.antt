@@ -20,27 +20,6 @@ abbrev μ-loop : tie.MeasureT-loop
 loop-holds : tie.Need-loop-holds Inv-loop μ-loop
 loop-holds c = (omega arith, refl, read-start _ _ _ (c .before .before .pre .0) _ (c .before .before .pre .3))
 
-add-put : tie.Need-add-put Inv-loop μ-loop
-add-put c = omega (arith, c .before .before .before .before .before .pre .0 .h-max)
-
-mul-read : tie.Need-mul-read Inv-loop μ-loop
-mul-read c =
-    let b5 = c .before .before .before .before .before in
-    omega (arith, row-place _ _ _ (c .before .before .loop .y) _ (b5 .pre .0) (b5 .pre .1) (b5 .pre .2) (omega arith))
-
-read-requires : tie.Need-read-requires Inv-loop μ-loop
-read-requires c κs =
-    let b5 = c .before .before .before .before .before in
-    row-at _ _ _ (c .before .before .loop .y) _ (b5 .pre .0) (b5 .pre .1) (b5 .pre .2) (omega arith)
-
-put-requires : tie.Need-put-requires Inv-loop μ-loop
-put-requires c κs =
-    let b3 = c .before .before .before in let b6 = b3 .before .before .before in
-    (b3 .loop .inv .1 ∙ b6 .pre .3 .long, omega (arith, b6 .pre .0 .h-max))
-
-add-y : tie.Need-add-y Inv-loop μ-loop
-add-y c = omega (arith, c .before .before .before .before .before .before .before .before .before .pre .0 .h-max)
-
 loop-again : tie.Need-loop-again Inv-loop μ-loop
 loop-again c =
     let b3 = c .before .before .before in let b6 = b3 .before .before .before in let b9 = b6 .before .before .before in let pre = b9 .pre in (
@@ -58,5 +37,8 @@ returns c =
 pub read-plane-spec : {M : Type 1} → statement M
 read-plane-spec =
     tie.close
-    (tie.spec Inv-loop μ-loop loop-holds add-put mul-read read-requires put-requires add-y (λ c. search needs) loop-again (λ c. c .before .loop .inv .1)
-    returns)
+    (tie.spec Inv-loop μ-loop loop-holds (λ c. omega (arith, c .before .before .before .before .before .pre .0 .h-max))
+    (λ c. let b5 = c .before .before .before .before .before in omega (arith, row-place _ _ _ (c .before .before .loop .y) _ (b5 .pre .0) (b5 .pre .1) (b5 .pre .2) (omega arith)))
+    (λ c κs. let b5 = c .before .before .before .before .before in row-at _ _ _ (c .before .before .loop .y) _ (b5 .pre .0) (b5 .pre .1) (b5 .pre .2) (omega arith))
+    (λ c κs. let b3 = c .before .before .before in let b6 = b3 .before .before .before in (b3 .loop .inv .1 ∙ b6 .pre .3 .long, omega (arith, b6 .pre .0 .h-max)))
+    (λ c. omega (arith, c .before .before .before .before .before .before .before .before .before .pre .0 .h-max)) (λ c. search needs) loop-again (λ c. c .before .loop .inv .1) returns)

@@ -36,5 +36,5 @@ returns c =
 pub get16s-spec : {M : Type 1} → statement M
 get16s-spec =
     tie.close
-    (tie.spec Inv-loop μ-loop (λ c. (refl, omega arith, omega arith, refl)) (λ c κs. omega arith) (λ c. omega arith) (λ c. omega arith) (λ c. omega arith)
-    (λ c. omega arith) (λ c. omega arith) loop-again (λ c. c .before .loop .inv .3) returns)
+    (tie.spec Inv-loop μ-loop (λ c. (refl, omega arith, omega arith, refl)) (λ c κs. omega arith) (λ c. omega arith) (λ c. omega arith) (λ c. omega arith) (λ c. omega arith) (λ c. omega arith)
+    loop-again (λ c. c .before .loop .inv .3) returns)

@@ -40,6 +40,5 @@ returns c =
 pub put16s-spec : {M : Type 1} → statement M
 put16s-spec =
     tie.close
-    (tie.spec Inv-loop μ-loop (λ c. (over-none (now (c .args .d)) 0, omega arith, omega arith, refl)) (λ c. omega arith) (λ c. omega arith)
-    (λ c. omega arith) (λ c. omega arith) (λ c. omega arith) (λ c. omega arith) (λ c. simp length-set (omega arith)) (λ c. omega arith) (λ c. omega arith)
-    (λ c. omega arith) loop-again (λ c. c .before .loop .inv .3) returns)
+    (tie.spec Inv-loop μ-loop (λ c. (over-none (now (c .args .d)) 0, omega arith, omega arith, refl)) (λ c. omega arith) (λ c. omega arith) (λ c. omega arith) (λ c. omega arith) (λ c. omega arith)
+    (λ c. omega arith) (λ c. simp length-set (omega arith)) (λ c. omega arith) (λ c. omega arith) (λ c. omega arith) loop-again (λ c. c .before .loop .inv .3) returns)

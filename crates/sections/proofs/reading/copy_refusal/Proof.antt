@@ -10,17 +10,6 @@ use Rattle.sections.proofs.reading.copy_refusal.Tie as tie
 returns : tie.Need-returns
 returns c = stops _ (c .before .read-refusal .ensures) (c .if1 .taken) ∙ sym (copy-parts _ _)
 
-settings-in-requires : tie.Need-settings-in-requires
-settings-in-requires c κs = head-whole _ (sym (c .before .read-refusal .ensures) ∙ c .if1 .left)
-
-stored-in-requires : tie.Need-stored-in-requires
-stored-in-requires c κs = let b = behind _ _ (sym (c .before .before .read-refusal .ensures) ∙ c .before .if1 .left) (c .settings-in .ensures) in (b .fine, b .count)
-
-ring-count-requires : tie.Need-ring-count-requires
-ring-count-requires c κs =
-    let b3 = c .before .before .before in
-    behind _ _ (sym (b3 .read-refusal .ensures) ∙ c .before .before .if1 .left) (c .before .settings-in .ensures) .fine
-
 returns-2 : tie.Need-returns-2
 returns-2 c =
     let b3 = c .before .before .before in let b4 = b3 .before in let b5 = b4 .before in let b7 = b5 .before .before in
@@ -38,4 +27,6 @@ returns-3 c =
 pub copy-refusal-spec : {M : Type 1} → statement M
 copy-refusal-spec =
     tie.close
-    (tie.spec (λ c κs. search needs) returns settings-in-requires stored-in-requires ring-count-requires returns-2 returns-3)
+    (tie.spec (λ c κs. search needs) returns (λ c κs. head-whole _ (sym (c .before .read-refusal .ensures) ∙ c .if1 .left))
+    (λ c κs. let b = behind _ _ (sym (c .before .before .read-refusal .ensures) ∙ c .before .if1 .left) (c .settings-in .ensures) in (b .fine, b .count))
+    (λ c κs. let b3 = c .before .before .before in behind _ _ (sym (b3 .read-refusal .ensures) ∙ c .before .before .if1 .left) (c .before .settings-in .ensures) .fine) returns-2 returns-3)

@@ -17,11 +17,6 @@ returns-2 c =
     let b3 = c .before .before .before in
     goes-on (b3 .part-section .ensures) (c .before .before .if1 .left) (stops _ (c .before .support-section .ensures) (c .if2 .taken))
 
-stored-in-requires : tie.Need-stored-in-requires
-stored-in-requires c κs =
-    let b5 = c .before .before .before .before .before in
-    (b5 .pre .0, section-out _ _ _ _ (sym (c .before .support-section .ensures) ∙ c .if2 .left) .room)
-
 from-rings-requires : tie.Need-from-rings-requires
 from-rings-requires c κs =
     let b6 = c .before .before .before .before .before .before in
@@ -37,4 +32,5 @@ returns-3 c =
 pub from-part-spec : {M : Type 1} → statement M
 from-part-spec =
     tie.close
-    (tie.spec (λ c κs. search needs) returns (λ c κs. search needs) returns-2 stored-in-requires from-rings-requires returns-3)
+    (tie.spec (λ c κs. search needs) returns (λ c κs. search needs) returns-2
+    (λ c κs. let b5 = c .before .before .before .before .before in (b5 .pre .0, section-out _ _ _ _ (sym (c .before .support-section .ensures) ∙ c .if2 .left) .room)) from-rings-requires returns-3)

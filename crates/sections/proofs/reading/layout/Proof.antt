@@ -4,12 +4,6 @@ use borrow.Author.Needs.{needs}
 use Rattle.sections.proofs.reading.layout.Statement.{statement}
 use Rattle.sections.proofs.reading.layout.Tie as tie
 
-stored-in-requires : tie.Need-stored-in-requires
-stored-in-requires c κs = let b = behind _ _ (c .before .before .pre) (c .settings-in .ensures) in (b .fine, b .count)
-
-part-end-requires : tie.Need-part-end-requires
-part-end-requires c κs = behind _ _ (c .before .before .before .pre) (c .before .settings-in .ensures) .fine
-
 support-end-requires : tie.Need-support-end-requires
 support-end-requires c κs =
     let b4 = c .before .before .before .before in
@@ -24,5 +18,5 @@ returns c =
 pub layout-spec : {M : Type 1} → statement M
 layout-spec =
     tie.close
-    (tie.spec (λ c κs. head-whole _ (c .before .pre)) stored-in-requires part-end-requires (λ c. search needs) support-end-requires (λ c. search needs)
-    (λ c. search needs) returns)
+    (tie.spec (λ c κs. head-whole _ (c .before .pre)) (λ c κs. let b = behind _ _ (c .before .before .pre) (c .settings-in .ensures) in (b .fine, b .count))
+    (λ c κs. behind _ _ (c .before .before .before .pre) (c .before .settings-in .ensures) .fine) (λ c. search needs) support-end-requires (λ c. search needs) (λ c. search needs) returns)

@@ -6,9 +6,6 @@ use borrow.Author.Needs.{needs}
 use Rattle.sections.proofs.reading.padding.Statement.{statement}
 use Rattle.sections.proofs.reading.padding.Tie as tie
 
-part-in-requires : tie.Need-part-in-requires
-part-in-requires c κs = (c .before .pre .fine, c .before .pre .same, part-room _ _ _ (c .before .pre))
-
 padding-refusal-requires : tie.Need-padding-refusal-requires
 padding-refusal-requires c κs =
     let r = ranged (c .before .before .before .args .s) (c .before .before .before .pre .fine) in
@@ -36,4 +33,5 @@ returns-2 c =
 pub padding-spec : {M : Type 1} → statement M
 padding-spec =
     tie.close
-    (tie.spec part-in-requires (λ c κs. search needs) padding-refusal-requires returns (λ c κs. search needs) padding-refusal-requires-2 returns-2)
+    (tie.spec (λ c κs. (c .before .pre .fine, c .before .pre .same, part-room _ _ _ (c .before .pre))) (λ c κs. search needs) padding-refusal-requires returns (λ c κs. search needs)
+    padding-refusal-requires-2 returns-2)

@@ -10,9 +10,6 @@ use borrow.Author.Needs.{needs}
 use Rattle.sections.proofs.reading.part_section.Statement.{statement}
 use Rattle.sections.proofs.reading.part_section.Tie as tie
 
-row-bytes-requires : tie.Need-row-bytes-requires
-row-bytes-requires c κs = ranged (c .before .before .args .s) (c .before .before .pre) .w-high
-
 returns : tie.Need-returns
 unfolding headEnd
 returns c =
@@ -23,4 +20,4 @@ returns c =
 pub part-section-spec : {M : Type 1} → statement M
 part-section-spec =
     tie.close
-    (tie.spec (λ c κs. search needs) row-bytes-requires (λ c κs. search needs) returns)
+    (tie.spec (λ c κs. search needs) (λ c κs. ranged (c .before .before .args .s) (c .before .before .pre) .w-high) (λ c κs. search needs) returns)

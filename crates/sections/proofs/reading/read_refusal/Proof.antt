@@ -13,18 +13,12 @@ use Rattle.sections.proofs.reading.read_refusal.Tie as tie
 returns : tie.Need-returns
 returns c = stops _ (c .before .settings-section .ensures) (c .if1 .taken) ∙ sym (read-parts (now (c .before .before .before .args .f)))
 
-settings-in-requires : tie.Need-settings-in-requires
-settings-in-requires c κs = first-whole _ (sym (c .before .settings-section .ensures) ∙ c .if1 .left)
-
 returns-2 : tie.Need-returns-2
 returns-2 c =
     let b3 = c .before .before .before in let b4 = b3 .before in let b6 = b4 .before .before in
     goes-on (b4 .settings-section .ensures) (b3 .if1 .left)
     (stops _ (c .before .settings-refusal .ensures ∙ ap (λ (s : Settings). refusal (settingCases s)) (c .before .before .settings-in .ensures)) (c .if2 .taken))
     ∙ sym (read-parts (now (b6 .args .f)))
-
-from-part-requires : tie.Need-from-part-requires
-from-part-requires c κs = (sym (c .before .settings-refusal .ensures) ∙ c .if2 .left, c .before .before .settings-in .ensures)
 
 returns-3 : tie.Need-returns-3
 returns-3 c =
@@ -36,4 +30,5 @@ returns-3 c =
 pub read-refusal-spec : {M : Type 1} → statement M
 read-refusal-spec =
     tie.close
-    (tie.spec (λ c κs. search needs) returns settings-in-requires (λ c κs. search needs) returns-2 from-part-requires returns-3)
+    (tie.spec (λ c κs. search needs) returns (λ c κs. first-whole _ (sym (c .before .settings-section .ensures) ∙ c .if1 .left)) (λ c κs. search needs) returns-2
+    (λ c κs. (sym (c .before .settings-refusal .ensures) ∙ c .if2 .left, c .before .before .settings-in .ensures)) returns-3)

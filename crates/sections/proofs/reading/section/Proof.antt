@@ -42,5 +42,5 @@ returns-4 c =
 pub section-spec : {M : Type 1} → statement M
 section-spec =
     tie.close
-    (tie.spec (λ c. search needs) (λ c. count-cut _ _ _ _ (c .if1 .taken)) (λ c κs. search needs) (λ c. search needs) (λ c κs. search needs) returns-2
-    (λ c. search needs) mul-if3 add-if3-2 returns-3 returns-4)
+    (tie.spec (λ c. search needs) (λ c. count-cut _ _ _ _ (c .if1 .taken)) (λ c κs. search needs) (λ c. search needs) (λ c κs. search needs) returns-2 (λ c. search needs) mul-if3 add-if3-2 returns-3
+    returns-4)

@@ -10,9 +10,6 @@ use borrow.Author.Needs.{needs}
 use Rattle.sections.proofs.reading.support_section.Statement.{statement}
 use Rattle.sections.proofs.reading.support_section.Tie as tie
 
-row-bytes-requires : tie.Need-row-bytes-requires
-row-bytes-requires c κs = ranged (c .before .before .before .args .s) (c .before .before .before .pre) .w-high
-
 returns : tie.Need-returns
 returns c =
     let b3 = c .before .before .before in let b5 = b3 .before .before in let args = b5 .args in
@@ -24,4 +21,4 @@ returns c =
 pub support-section-spec : {M : Type 1} → statement M
 support-section-spec =
     tie.close
-    (tie.spec (λ c κs. search needs) (λ c κs. search needs) row-bytes-requires (λ c κs. search needs) returns)
+    (tie.spec (λ c κs. search needs) (λ c κs. search needs) (λ c κs. ranged (c .before .before .before .args .s) (c .before .before .before .pre) .w-high) (λ c κs. search needs) returns)

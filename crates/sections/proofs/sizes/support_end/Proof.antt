@@ -8,12 +8,6 @@ use borrow.Author.Needs.{needs}
 use Rattle.sections.proofs.sizes.support_end.Statement.{statement}
 use Rattle.sections.proofs.sizes.support_end.Tie as tie
 
-mul-result : tie.Need-mul-result
-mul-result c = omega (arith, mul-le-mul (c .before .before .pre .1) (c .row-bytes .ensures .1))
-
-add-result-2 : tie.Need-add-result-2
-add-result-2 c = omega (arith, mul-le-mul (c .before .before .pre .1) (c .row-bytes .ensures .1))
-
 returns : tie.Need-returns
 unfolding supportEnd
 returns c = (
@@ -25,4 +19,5 @@ returns c = (
 pub support-end-spec : {M : Type 1} → statement M
 support-end-spec =
     tie.close
-    (tie.spec (λ c κs. search needs) (λ c. search needs) (λ c κs. ranged (c .before .args .s) (c .before .pre .0) .w-high) mul-result add-result-2 returns)
+    (tie.spec (λ c κs. search needs) (λ c. search needs) (λ c κs. ranged (c .before .args .s) (c .before .pre .0) .w-high)
+    (λ c. omega (arith, mul-le-mul (c .before .before .pre .1) (c .row-bytes .ensures .1))) (λ c. omega (arith, mul-le-mul (c .before .before .pre .1) (c .row-bytes .ensures .1))) returns)

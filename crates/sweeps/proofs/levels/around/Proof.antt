@@ -8,16 +8,6 @@ use Rattle.sweeps.specs.Marks.{levelAt, Least, Beside}
 use Rattle.sweeps.proofs.levels.around.Statement.{statement}
 use Rattle.sweeps.proofs.levels.around.Tie as tie
 
-three-requires : tie.Need-three-requires
-three-requires c κs =
-    let b3 = c .before .before .before in
-    let b = b3 in omega (arith, b .pre, c .before .row-up .ensures, row-fits (b .args .r - 1) (b .args .h) (b .args .w) (omega arith))
-
-three-requires-2 : tie.Need-three-requires-2
-three-requires-2 c κs =
-    let b4 = c .before .before .before .before in
-    let b = b4 in omega (arith, b .pre, row-fits (b .args .r) (b .args .h) (b .args .w) (omega arith))
-
 three-requires-3 : tie.Need-three-requires-3
 three-requires-3 c κs =
     let b5 = c .before .before .before .before .before in
@@ -41,5 +31,7 @@ returns c =
 pub around-spec : {M : Type 1} → statement M
 around-spec =
     tie.close
-    (tie.spec (λ c κs. search needs) (λ c κs. search needs) three-requires three-requires-2 three-requires-3 (λ c κs. search needs) (λ c κs. search needs)
-    returns)
+    (tie.spec (λ c κs. search needs) (λ c κs. search needs)
+    (λ c κs. let b3 = c .before .before .before in let b = b3 in omega (arith, b .pre, c .before .row-up .ensures, row-fits (b .args .r - 1) (b .args .h) (b .args .w) (omega arith)))
+    (λ c κs. let b4 = c .before .before .before .before in let b = b4 in omega (arith, b .pre, row-fits (b .args .r) (b .args .h) (b .args .w) (omega arith))) three-requires-3 (λ c κs. search needs)
+    (λ c κs. search needs) returns)

@@ -5,9 +5,6 @@ use Rattle.sweeps.specs.LeastLaws.{row-back}
 use Rattle.sweeps.proofs.levels.row_up.Statement.{statement}
 use Rattle.sweeps.proofs.levels.row_up.Tie as tie
 
-sub-result : tie.Need-sub-result
-sub-result c = omega (arith, row-back (c .before .args .r) (c .before .args .w) (c .if1 .taken))
-
 returns : tie.Need-returns
 returns c = omega (arith, row-back (c .before .args .r) (c .before .args .w) (c .if1 .taken))
 
@@ -17,4 +14,4 @@ returns-2 c = c .before .pre ∙ ap (λ (x : ℕ). x * c .before .args .w) (omeg
 pub row-up-spec : {M : Type 1} → statement M
 row-up-spec =
     tie.close
-    (tie.spec sub-result returns returns-2)
+    (tie.spec (λ c. omega (arith, row-back (c .before .args .r) (c .before .args .w) (c .if1 .taken))) returns returns-2)

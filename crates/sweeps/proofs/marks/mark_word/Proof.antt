@@ -9,5 +9,4 @@ returns c = λ t X. joined1 t _ _ _ _ (c .before .before .pre .0) (c .before .sl
 pub mark-word-spec : {M : Type 1} → statement M
 mark-word-spec =
     tie.close
-    (tie.spec (λ c. search needs) (λ c. search needs) (λ c. search needs) (λ c. search needs) (λ c. search needs) (λ c. search needs) (λ c. search needs)
-    returns)
+    (tie.spec (λ c. search needs) (λ c. search needs) (λ c. search needs) (λ c. search needs) (λ c. search needs) (λ c. search needs) (λ c. search needs) returns)

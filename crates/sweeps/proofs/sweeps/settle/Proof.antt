@@ -16,9 +16,6 @@ abbrev μ-loop : tie.MeasureT-loop
 loop-holds : tie.Need-loop-holds Inv-loop μ-loop
 loop-holds c = (refl, refl, c .before .before .before .before .pre, onward-none _ _ _ _ _ _)
 
-loop-less : tie.Need-loop-less Inv-loop μ-loop
-loop-less c = c .before .before .before .before .before .before .before .sweep .ensures .1 .0 .fell (c .if1 .taken)
-
 loop-again : tie.Need-loop-again Inv-loop μ-loop
 loop-again c =
     let b7 = c .before .before .before .before .before .before .before in let b11 = b7 .before .before .before .before in
@@ -28,16 +25,6 @@ same-length : tie.Need-same-length Inv-loop μ-loop
 same-length c =
     let b7 = c .before .before .before .before .before .before .before in let b16 = b7 .before .before .before .before .before .before .before .before .before in
     b7 .sweep .ensures .0 .ring-long ∙ sym (b16 .pre .ring-long)
-
-same-length-2 : tie.Need-same-length-2 Inv-loop μ-loop
-same-length-2 c =
-    let b7 = c .before .before .before .before .before .before .before in let b11 = b7 .before .before .before .before in
-    b7 .sweep .kept .1 .0 ∙ b11 .loop .inv .0
-
-same-length-3 : tie.Need-same-length-3 Inv-loop μ-loop
-same-length-3 c =
-    let b7 = c .before .before .before .before .before .before .before in let b11 = b7 .before .before .before .before in
-    b7 .sweep .kept .1 .1 .0 ∙ b11 .loop .inv .1
 
 returns : tie.Need-returns Inv-loop μ-loop
 returns c =
@@ -55,5 +42,6 @@ returns c =
 pub settle-spec : {M : Type 1} → statement M
 settle-spec =
     tie.close
-    (tie.spec Inv-loop μ-loop loop-holds (λ c κs. c .before .before .before .loop .inv .2) loop-less loop-again same-length same-length-2 same-length-3
-    returns)
+    (tie.spec Inv-loop μ-loop loop-holds (λ c κs. c .before .before .before .loop .inv .2) (λ c. c .before .before .before .before .before .before .before .sweep .ensures .1 .0 .fell (c .if1 .taken))
+    loop-again same-length (λ c. let b7 = c .before .before .before .before .before .before .before in let b11 = b7 .before .before .before .before in b7 .sweep .kept .1 .0 ∙ b11 .loop .inv .0)
+    (λ c. let b7 = c .before .before .before .before .before .before .before in let b11 = b7 .before .before .before .before in b7 .sweep .kept .1 .1 .0 ∙ b11 .loop .inv .1) returns)

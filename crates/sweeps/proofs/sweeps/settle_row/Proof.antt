@@ -19,26 +19,10 @@ Inv-loop ring₀ marks₀ got₀ cand w h r i0 changed₀ q₀ ring marks got ch
 abbrev μ-loop : tie.MeasureT-loop
 μ-loop ring₀ marks₀ got₀ cand w h r i0 changed₀ q₀ ring marks got changed q = sumBy level ring * 147573952589676412928 + (5 - q) * 18446744073709551616 + getD marks ((r + 33) * 5 + q) 0
 
-add-i0 : tie.Need-add-i0 Inv-loop μ-loop
-add-i0 c = omega (arith, c .before .before .before .before .pre .1, c .before .before .before .before .pre .0 .sizes .h-max)
-
-mul-i0 : tie.Need-mul-i0 Inv-loop μ-loop
-mul-i0 c = omega (arith, c .before .before .before .before .pre .1, c .before .before .before .before .pre .0 .sizes .h-max)
-
 loop-holds : tie.Need-loop-holds Inv-loop μ-loop
 loop-holds c =
     let b4 = c .before .before .before .before in
     (omega arith, refl, refl, b4 .pre .0, moved-none _ _, (λ e j x y. absurd (omega arith)), onward-none _ _ _ _ _ _)
-
-add-m : tie.Need-add-m Inv-loop μ-loop
-add-m c =
-    let b6 = c .before .before .before .before .before .before in
-    omega (arith, b6 .pre .1, b6 .pre .0 .sizes .h-max, c .loop-test .taken)
-
-mul-m : tie.Need-mul-m Inv-loop μ-loop
-mul-m c =
-    let b6 = c .before .before .before .before .before .before in
-    omega (arith, b6 .pre .1, b6 .pre .0 .sizes .h-max, c .loop-test .taken)
 
 slice-read-m : tie.Need-slice-read-m Inv-loop μ-loop
 slice-read-m c =
@@ -107,15 +91,16 @@ loop-again-3 c =
       onward-then (b16 .loop .inv .6) (b7 .visit .ensures .1 .1 .1),
     )
 
-same-length : tie.Need-same-length Inv-loop μ-loop
-same-length c = c .before .loop .inv .3 .ring-long ∙ sym (c .before .before .before .before .before .before .pre .0 .ring-long)
-
 returns : tie.Need-returns Inv-loop μ-loop
 returns c = (c .before .loop .inv .3, (c .before .loop .inv .4, ((λ e j x y. c .before .loop .inv .5 e j x (omega (arith, c .loop-test .left))), c .before .loop .inv .6)))
 
 pub settle-row-spec : {M : Type 1} → statement M
 settle-row-spec =
     tie.close
-    (tie.spec Inv-loop μ-loop add-i0 mul-i0 loop-holds add-m mul-m slice-read-m (λ c. omega (arith, c .before .before .loop-test .taken)) loop-less
-    loop-again (λ c κs. omega (arith, c .if1 .left)) (λ c κs. search needs) visit-requires loop-less-2 loop-again-2 loop-less-3 loop-again-3 same-length
-    (λ c. c .before .loop .inv .1) (λ c. c .before .loop .inv .2) returns)
+    (tie.spec Inv-loop μ-loop (λ c. omega (arith, c .before .before .before .before .pre .1, c .before .before .before .before .pre .0 .sizes .h-max))
+    (λ c. omega (arith, c .before .before .before .before .pre .1, c .before .before .before .before .pre .0 .sizes .h-max)) loop-holds
+    (λ c. let b6 = c .before .before .before .before .before .before in omega (arith, b6 .pre .1, b6 .pre .0 .sizes .h-max, c .loop-test .taken))
+    (λ c. let b6 = c .before .before .before .before .before .before in omega (arith, b6 .pre .1, b6 .pre .0 .sizes .h-max, c .loop-test .taken)) slice-read-m
+    (λ c. omega (arith, c .before .before .loop-test .taken)) loop-less loop-again (λ c κs. omega (arith, c .if1 .left)) (λ c κs. search needs) visit-requires loop-less-2 loop-again-2 loop-less-3
+    loop-again-3 (λ c. c .before .loop .inv .3 .ring-long ∙ sym (c .before .before .before .before .before .before .pre .0 .ring-long)) (λ c. c .before .loop .inv .1) (λ c. c .before .loop .inv .2)
+    returns)

@@ -22,26 +22,10 @@ loop-holds c =
     let b4 = c .before .before .before .before in
     (omega arith, refl, refl, b4 .pre, moved-none _ _, (λ e j x y. absurd (omega arith)), onward-none _ _ _ _ _ _)
 
-add-r : tie.Need-add-r Inv-loop μ-loop
-add-r c = omega (arith, c .loop-test .taken, c .before .before .before .before .before .before .pre .sizes .h-max)
-
-add-row : tie.Need-add-row Inv-loop μ-loop
-add-row c = omega (arith, c .before .loop-test .taken, c .before .before .before .before .before .before .before .pre .sizes .h-max)
-
 row-requires : tie.Need-row-requires Inv-loop μ-loop
 row-requires c κs =
     let b7 = c .before .before .before .before .before .before .before in
     (c .before .before .loop .inv .3 .marks-long, omega (arith, c .before .loop-test .taken, b7 .pre .sizes .h-max))
-
-settle-row-requires : tie.Need-settle-row-requires Inv-loop μ-loop
-settle-row-requires c κs =
-    let b7 = c .before .before .before .before .before .before .before in let b8 = b7 .before in
-    (b8 .loop .inv .3, omega (arith, b7 .loop-test .taken))
-
-loop-less : tie.Need-loop-less Inv-loop μ-loop
-loop-less c =
-    let b15 = c .before .before .before .before .before .before .before .before .before .before .before .before .before .before .before in
-    omega (arith, b15 .loop-test .taken)
 
 loop-again : tie.Need-loop-again Inv-loop μ-loop
 loop-again c =
@@ -55,11 +39,6 @@ loop-again c =
       (λ e. absurd (true≢false e)),
       onward-then (b16 .loop .inv .6) (b7 .settle-row .ensures .1 .1 .1),
     )
-
-loop-less-2 : tie.Need-loop-less-2 Inv-loop μ-loop
-loop-less-2 c =
-    let b15 = c .before .before .before .before .before .before .before .before .before .before .before .before .before .before .before in
-    omega (arith, b15 .loop-test .taken)
 
 loop-again-2 : tie.Need-loop-again-2 Inv-loop μ-loop
 loop-again-2 c =
@@ -75,9 +54,6 @@ loop-again-2 c =
       onward-then (b16 .loop .inv .6) (b7 .settle-row .ensures .1 .1 .1),
     )
 
-loop-less-3 : tie.Need-loop-less-3 Inv-loop μ-loop
-loop-less-3 c = omega (arith, c .before .before .before .before .loop-test .taken)
-
 loop-again-3 : tie.Need-loop-again-3 Inv-loop μ-loop
 loop-again-3 c =
     let b4 = c .before .before .before .before in let b5 = b4 .before in (
@@ -92,9 +68,6 @@ loop-again-3 c =
       b5 .loop .inv .6,
     )
 
-same-length : tie.Need-same-length Inv-loop μ-loop
-same-length c = c .before .loop .inv .3 .ring-long ∙ sym (c .before .before .before .before .before .before .pre .ring-long)
-
 returns : tie.Need-returns Inv-loop μ-loop
 returns c =
     let b6 = c .before .before .before .before .before .before in (
@@ -108,5 +81,10 @@ returns c =
 pub sweep-spec : {M : Type 1} → statement M
 sweep-spec =
     tie.close
-    (tie.spec Inv-loop μ-loop loop-holds add-r add-row row-requires (λ c κs. search needs) settle-row-requires loop-less loop-again loop-less-2
-    loop-again-2 loop-less-3 loop-again-3 same-length (λ c. c .before .loop .inv .1) (λ c. c .before .loop .inv .2) returns)
+    (tie.spec Inv-loop μ-loop loop-holds (λ c. omega (arith, c .loop-test .taken, c .before .before .before .before .before .before .pre .sizes .h-max))
+    (λ c. omega (arith, c .before .loop-test .taken, c .before .before .before .before .before .before .before .pre .sizes .h-max)) row-requires (λ c κs. search needs)
+    (λ c κs. let b7 = c .before .before .before .before .before .before .before in let b8 = b7 .before in (b8 .loop .inv .3, omega (arith, b7 .loop-test .taken)))
+    (λ c. let b15 = c .before .before .before .before .before .before .before .before .before .before .before .before .before .before .before in omega (arith, b15 .loop-test .taken)) loop-again
+    (λ c. let b15 = c .before .before .before .before .before .before .before .before .before .before .before .before .before .before .before in omega (arith, b15 .loop-test .taken)) loop-again-2
+    (λ c. omega (arith, c .before .before .before .before .loop-test .taken)) loop-again-3
+    (λ c. c .before .loop .inv .3 .ring-long ∙ sym (c .before .before .before .before .before .before .pre .ring-long)) (λ c. c .before .loop .inv .1) (λ c. c .before .loop .inv .2) returns)

@@ -14,24 +14,10 @@ mul-base c =
     let b4 = c .before .before .before .before in let args = b4 .args in
     omega (arith, kit-pixel (args .w) (args .h) (args .r) (args .q * 64 + args .k) (b4 .pre .0 .sizes) (b4 .pre .1 .0 .0) (b4 .pre .1 .0 .3))
 
-add-i : tie.Need-add-i
-add-i c = omega (arith, c .before .before .before .before .pre .1 .0, c .before .before .before .before .pre .0 .sizes .h-max)
-
-mul-i : tie.Need-mul-i
-mul-i c = omega (arith, c .before .before .before .before .pre .1 .0, c .before .before .before .before .pre .0 .sizes .h-max)
-
-add-i-2 : tie.Need-add-i-2
-add-i-2 c = omega (arith, c .before .before .before .before .pre .1 .0, c .before .before .before .before .pre .0 .sizes .h-max)
-
 add-p : tie.Need-add-p
 add-p c =
     let b4 = c .before .before .before .before in let args = b4 .args in
     omega (arith, kit-pixel (args .w) (args .h) (args .r) (args .q * 64 + args .k) (b4 .pre .0 .sizes) (b4 .pre .1 .0 .0) (b4 .pre .1 .0 .3))
-
-clear-bit-requires : tie.Need-clear-bit-requires
-clear-bit-requires c κs =
-    let b5 = c .before .before .before .before .before in let pre = b5 .pre in
-    (omega (arith, pre .0 .marks-long, pre .1 .0, pre .0 .sizes .h-max), pre .1 .0 .2)
 
 around-requires : tie.Need-around-requires
 around-requires c κs =
@@ -91,7 +77,10 @@ returns-2 c =
 pub visit-spec : {M : Type 1} → statement M
 visit-spec =
     tie.close
-    (tie.spec mul-base add-i mul-i add-i-2 (λ c. omega (arith, c .before .before .before .before .pre .1 .0))
-    (λ c. omega (arith, c .before .before .before .before .pre .1 .0)) add-p clear-bit-requires around-requires level-at-requires (λ c. search needs)
-    (λ c. search needs) (λ c. search needs) mul-ring slice-write-ring set-bit-requires spread-requires (λ c. search needs) (λ c. search needs)
+    (tie.spec mul-base (λ c. omega (arith, c .before .before .before .before .pre .1 .0, c .before .before .before .before .pre .0 .sizes .h-max))
+    (λ c. omega (arith, c .before .before .before .before .pre .1 .0, c .before .before .before .before .pre .0 .sizes .h-max))
+    (λ c. omega (arith, c .before .before .before .before .pre .1 .0, c .before .before .before .before .pre .0 .sizes .h-max)) (λ c. omega (arith, c .before .before .before .before .pre .1 .0))
+    (λ c. omega (arith, c .before .before .before .before .pre .1 .0)) add-p
+    (λ c κs. let b5 = c .before .before .before .before .before in let pre = b5 .pre in (omega (arith, pre .0 .marks-long, pre .1 .0, pre .0 .sizes .h-max), pre .1 .0 .2)) around-requires
+    level-at-requires (λ c. search needs) (λ c. search needs) (λ c. search needs) mul-ring slice-write-ring set-bit-requires spread-requires (λ c. search needs) (λ c. search needs)
     (λ c. search needs) returns (λ c. search needs) (λ c. search needs) returns-2)

@@ -37,5 +37,4 @@ returns c =
 pub number-few-spec : {M : Type 1} → statement M
 number-few-spec =
     tie.close
-    (tie.spec number-requires (λ c. search needs) number-requires-2 (λ c. search needs) number-requires-3 (λ c. search needs) number-requires-4
-    (λ c. search needs) returns)
+    (tie.spec number-requires (λ c. search needs) number-requires-2 (λ c. search needs) number-requires-3 (λ c. search needs) number-requires-4 (λ c. search needs) returns)

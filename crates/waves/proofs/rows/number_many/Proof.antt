@@ -5,14 +5,6 @@ use borrow.Author.Needs.{needs}
 use Rattle.waves.proofs.rows.number_many.Statement.{statement}
 use Rattle.waves.proofs.rows.number_many.Tie as tie
 
-eights-requires : tie.Need-eights-requires
-eights-requires c κs = (omega (arith, c .before .before .before .pre .0), c .before .before .before .pre .1)
-
-eights-requires-2 : tie.Need-eights-requires-2
-eights-requires-2 c κs =
-    let b3 = c .before .before .before in let b7 = b3 .before .before .before .before in
-    (omega (arith, b7 .pre .0, b3 .eights .kept .0), b7 .pre .1)
-
 eights-requires-3 : tie.Need-eights-requires-3
 eights-requires-3 c κs =
     let b3 = c .before .before .before in let b7 = b3 .before .before .before .before in let b11 = b7 .before .before .before .before in
@@ -33,5 +25,6 @@ returns c =
 pub number-many-spec : {M : Type 1} → statement M
 number-many-spec =
     tie.close
-    (tie.spec eights-requires (λ c. search needs) eights-requires-2 (λ c. search needs) eights-requires-3 (λ c. search needs) eights-requires-4
-    (λ c. search needs) returns)
+    (tie.spec (λ c κs. (omega (arith, c .before .before .before .pre .0), c .before .before .before .pre .1)) (λ c. search needs)
+    (λ c κs. let b3 = c .before .before .before in let b7 = b3 .before .before .before .before in (omega (arith, b7 .pre .0, b3 .eights .kept .0), b7 .pre .1)) (λ c. search needs) eights-requires-3
+    (λ c. search needs) eights-requires-4 (λ c. search needs) returns)

@@ -19,33 +19,6 @@ loop-holds c =
     let b4 = c .before .before .before .before in let pre = b4 .pre in
     (pre .1 .on 0 (omega arith) .1, refl, copy-start _ _ _ _ _ (pre .0) (pre .2) (pre .3))
 
-add-put : tie.Need-add-put Inv-loop μ-loop
-add-put c = omega (arith, c .before .before .before .before .before .before .before .pre .0 .h-max)
-
-add-row : tie.Need-add-row Inv-loop μ-loop
-add-row c = omega (arith, c .before .before .before .before .before .before .before .pre .0 .h-max)
-
-row-requires : tie.Need-row-requires Inv-loop μ-loop
-row-requires c κs =
-    let b7 = c .before .before .before .before .before .before .before in
-    (b7 .pre .2 .ready .long, omega (arith, b7 .pre .0 .h-max))
-
-put-requires : tie.Need-put-requires Inv-loop μ-loop
-put-requires c κs =
-    let b3 = c .before .before .before in let b8 = b3 .before .before .before .before .before in
-    (b3 .loop .inv .1 ∙ b8 .pre .3 .ready .long, omega (arith, b8 .pre .0 .h-max))
-
-add-y : tie.Need-add-y Inv-loop μ-loop
-add-y c = omega (arith, c .before .before .before .before .before .before .before .before .before .before .before .pre .0 .h-max)
-
-mul-y : tie.Need-mul-y Inv-loop μ-loop
-mul-y c = omega (arith, c .before .before .before .before .before .before .before .before .before .before .before .pre .0 .h-max)
-
-shared-slice-read-y-2 : tie.Need-shared-slice-read-y-2 Inv-loop μ-loop
-shared-slice-read-y-2 c =
-    let b12 = c .before .before .before .before .before .before .before .before .before .before .before .before in
-    omega (arith, b12 .pre .1 .long, b12 .pre .0 .h-max)
-
 loop-less : tie.Need-loop-less Inv-loop μ-loop
 loop-less c =
     let b7 = c .before .before .before .before .before .before .before in let b12 = b7 .before .before .before .before .before in
@@ -70,5 +43,11 @@ returns c =
 pub copy-spec : {M : Type 1} → statement M
 copy-spec =
     tie.close
-    (tie.spec Inv-loop μ-loop (λ c. omega (arith, c .before .before .before .before .pre .1 .long)) loop-holds add-put add-row row-requires put-requires
-    add-y mul-y shared-slice-read-y-2 loop-less loop-again (λ c. c .before .loop .inv .1) returns)
+    (tie.spec Inv-loop μ-loop (λ c. omega (arith, c .before .before .before .before .pre .1 .long)) loop-holds
+    (λ c. omega (arith, c .before .before .before .before .before .before .before .pre .0 .h-max)) (λ c. omega (arith, c .before .before .before .before .before .before .before .pre .0 .h-max))
+    (λ c κs. let b7 = c .before .before .before .before .before .before .before in (b7 .pre .2 .ready .long, omega (arith, b7 .pre .0 .h-max)))
+    (λ c κs. let b3 = c .before .before .before in let b8 = b3 .before .before .before .before .before in (b3 .loop .inv .1 ∙ b8 .pre .3 .ready .long, omega (arith, b8 .pre .0 .h-max)))
+    (λ c. omega (arith, c .before .before .before .before .before .before .before .before .before .before .before .pre .0 .h-max))
+    (λ c. omega (arith, c .before .before .before .before .before .before .before .before .before .before .before .pre .0 .h-max))
+    (λ c. let b12 = c .before .before .before .before .before .before .before .before .before .before .before .before in omega (arith, b12 .pre .1 .long, b12 .pre .0 .h-max)) loop-less loop-again
+    (λ c. c .before .loop .inv .1) returns)

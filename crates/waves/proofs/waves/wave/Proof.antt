@@ -22,9 +22,6 @@ Inv-loop ring₀ from to₀ left₀ got₀ ahead w h v ones rows₀ more₀ y₀
 abbrev μ-loop : tie.MeasureT-loop
 μ-loop ring₀ from to₀ left₀ got₀ ahead w h v ones rows₀ more₀ y₀ ring to left got rows more y = h - y
 
-shared-slice-read-y : tie.Need-shared-slice-read-y Inv-loop μ-loop
-shared-slice-read-y c = omega (arith, c .before .before .before .before .before .before .before .before .pre .0 .aheads .long)
-
 loop-holds : tie.Need-loop-holds Inv-loop μ-loop
 loop-holds c =
     let b8 = c .before .before .before .before .before .before .before .before in
@@ -146,7 +143,7 @@ returns-2 c =
 pub wave-spec : {M : Type 1} → statement M
 wave-spec =
     tie.close
-    (tie.spec Inv-loop μ-loop shared-slice-read-y loop-holds wave-row-requires (λ c κs. search needs) add-rows (λ c κs. search needs) add-y mul-y
-    shared-slice-read-y-2 loop-less loop-again (λ c. c .before .before .loop .inv .2) (λ c. c .before .before .loop .inv .3)
-    (λ c. c .before .before .loop .inv .4) (λ c. c .before .before .loop .inv .5) returns (λ c. c .before .before .loop .inv .2)
-    (λ c. c .before .before .loop .inv .3) (λ c. c .before .before .loop .inv .4) (λ c. c .before .before .loop .inv .5) returns-2)
+    (tie.spec Inv-loop μ-loop (λ c. omega (arith, c .before .before .before .before .before .before .before .before .pre .0 .aheads .long)) loop-holds wave-row-requires (λ c κs. search needs)
+    add-rows (λ c κs. search needs) add-y mul-y shared-slice-read-y-2 loop-less loop-again (λ c. c .before .before .loop .inv .2) (λ c. c .before .before .loop .inv .3)
+    (λ c. c .before .before .loop .inv .4) (λ c. c .before .before .loop .inv .5) returns (λ c. c .before .before .loop .inv .2) (λ c. c .before .before .loop .inv .3)
+    (λ c. c .before .before .loop .inv .4) (λ c. c .before .before .loop .inv .5) returns-2)

@@ -21,9 +21,6 @@ loop-holds c =
     let b7 = c .before .before .before .before .before .before .before in let pre = b7 .pre in
     (pre .1 .1 .0, pre .1 .1 .1, pre .0, pre .1 .0 .0, pre .1 .0 .1, λ o s W. W)
 
-add-loop : tie.Need-add-loop Inv-loop μ-loop
-add-loop c = omega (arith, c .before .before .before .before .before .before .before .before .pre .1 .1 .2)
-
 wave-requires : tie.Need-wave-requires Inv-loop μ-loop
 wave-requires c κs =
     let b6 = c .before .before .before .before .before .before in let b14 = b6 .before .before .before .before .before .before .before .before in
@@ -317,31 +314,6 @@ loop-again c =
           (omega arith) B (b10 .wave2 .ensures .1 .1 .0) D o s (waved-on _ _ (b33 .loop .n) _ _ _ _ _ _ _ _ _ _ _ refl refl A (b26 .wave .ensures .1 .1 .0) B o s (b33 .loop .inv .5 o s W)),
     )
 
-same-length-21 : tie.Need-same-length-21 Inv-loop μ-loop
-same-length-21 c =
-    let b9 = c .before .before .before .before .before .before .before .before .before in
-    c .before .loop .inv .2 .ring-long ∙ sym (b9 .pre .0 .ring-long)
-
-same-length-22 : tie.Need-same-length-22 Inv-loop μ-loop
-same-length-22 c =
-    let b9 = c .before .before .before .before .before .before .before .before .before in
-    c .before .loop .inv .3 .ready .long ∙ sym (b9 .pre .1 .0 .0 .ready .long)
-
-same-length-23 : tie.Need-same-length-23 Inv-loop μ-loop
-same-length-23 c =
-    let b9 = c .before .before .before .before .before .before .before .before .before in
-    c .before .loop .inv .4 .ready .long ∙ sym (b9 .pre .1 .0 .1 .ready .long)
-
-same-length-24 : tie.Need-same-length-24 Inv-loop μ-loop
-same-length-24 c =
-    let b9 = c .before .before .before .before .before .before .before .before .before in
-    c .before .loop .inv .2 .left-room .ready .long ∙ sym (b9 .pre .0 .left-room .ready .long)
-
-same-length-25 : tie.Need-same-length-25 Inv-loop μ-loop
-same-length-25 c =
-    let b9 = c .before .before .before .before .before .before .before .before .before in
-    c .before .loop .inv .2 .got-room .ready .long ∙ sym (b9 .pre .0 .got-room .ready .long)
-
 returns-5 : tie.Need-returns-5 Inv-loop μ-loop
 returns-5 c = (
   c .before .loop .inv .2,
@@ -354,8 +326,11 @@ returns-5 c = (
 pub waves-spec : {M : Type 1} → statement M
 waves-spec =
     tie.close
-    (tie.spec Inv-loop μ-loop loop-holds add-loop (λ c. search needs) (λ c. search needs) wave-requires same-length same-length-2 same-length-3
-    same-length-4 same-length-5 returns copy-requires add-result same-length-6 same-length-7 same-length-8 same-length-9 same-length-10 returns-2
-    add-wave-2 cast-wave-2 wave-requires-2 same-length-11 same-length-12 same-length-13 same-length-14 same-length-15 returns-3 add-n same-length-16
-    same-length-17 same-length-18 same-length-19 same-length-20 returns-4 loop-less loop-again same-length-21 same-length-22 same-length-23 same-length-24
-    same-length-25 returns-5)
+    (tie.spec Inv-loop μ-loop loop-holds (λ c. omega (arith, c .before .before .before .before .before .before .before .before .pre .1 .1 .2)) (λ c. search needs) (λ c. search needs) wave-requires
+    same-length same-length-2 same-length-3 same-length-4 same-length-5 returns copy-requires add-result same-length-6 same-length-7 same-length-8 same-length-9 same-length-10 returns-2 add-wave-2
+    cast-wave-2 wave-requires-2 same-length-11 same-length-12 same-length-13 same-length-14 same-length-15 returns-3 add-n same-length-16 same-length-17 same-length-18 same-length-19 same-length-20
+    returns-4 loop-less loop-again (λ c. let b9 = c .before .before .before .before .before .before .before .before .before in c .before .loop .inv .2 .ring-long ∙ sym (b9 .pre .0 .ring-long))
+    (λ c. let b9 = c .before .before .before .before .before .before .before .before .before in c .before .loop .inv .3 .ready .long ∙ sym (b9 .pre .1 .0 .0 .ready .long))
+    (λ c. let b9 = c .before .before .before .before .before .before .before .before .before in c .before .loop .inv .4 .ready .long ∙ sym (b9 .pre .1 .0 .1 .ready .long))
+    (λ c. let b9 = c .before .before .before .before .before .before .before .before .before in c .before .loop .inv .2 .left-room .ready .long ∙ sym (b9 .pre .0 .left-room .ready .long))
+    (λ c. let b9 = c .before .before .before .before .before .before .before .before .before in c .before .loop .inv .2 .got-room .ready .long ∙ sym (b9 .pre .0 .got-room .ready .long)) returns-5)

@@ -43,6 +43,5 @@ returns c = let e : c .before .loop2 .k ≡ 8 = omega arith in rw e at (c .befor
 pub part-spec : {M : Type 1} → statement M
 part-spec =
     tie.close
-    (tie.spec Inv-loop μ-loop Inv-loop2 μ-loop2 (λ c. (omega arith, digits-none _ _)) (λ c. search needs) (λ c. search needs) (λ c κs. search needs)
-    (λ c. search needs) (λ c. omega arith) loop-again (λ c. (omega arith, omega arith, c .before .loop .inv .1)) (λ c. search needs) (λ c. omega arith)
-    loop2-again returns)
+    (tie.spec Inv-loop μ-loop Inv-loop2 μ-loop2 (λ c. (omega arith, digits-none _ _)) (λ c. search needs) (λ c. search needs) (λ c κs. search needs) (λ c. search needs) (λ c. omega arith) loop-again
+    (λ c. (omega arith, omega arith, c .before .loop .inv .1)) (λ c. search needs) (λ c. omega arith) loop2-again returns)

@@ -29,6 +29,5 @@ returns c =
 pub put-spec : {M : Type 1} → statement M
 put-spec =
     tie.close
-    (tie.spec Inv-loop μ-loop (λ c. (omega arith, filling-from _ _ _ _)) (λ c. search needs) (λ c. search needs) (λ c. search needs)
-    (λ c κs. search needs) (λ c. search needs) (λ c. omega (arith, c .before .before .loop .inv .1 .long)) (λ c. search needs) (λ c. omega arith)
-    loop-again (λ c. c .before .loop .inv .1 .long) returns)
+    (tie.spec Inv-loop μ-loop (λ c. (omega arith, filling-from _ _ _ _)) (λ c. search needs) (λ c. search needs) (λ c. search needs) (λ c κs. search needs) (λ c. search needs)
+    (λ c. omega (arith, c .before .before .loop .inv .1 .long)) (λ c. search needs) (λ c. omega arith) loop-again (λ c. c .before .loop .inv .1 .long) returns)

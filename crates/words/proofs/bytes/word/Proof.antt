@@ -24,5 +24,5 @@ returns c = let e : c .before .loop .k ≡ 8 = omega arith in leading-all _ _ _ 
 pub word-spec : {M : Type 1} → statement M
 word-spec =
     tie.close
-    (tie.spec Inv-loop μ-loop (λ c. (omega arith, leading-none _ _)) (λ c. search needs) (λ c. search needs) (λ c κs. search needs) (λ c. search needs)
-    (λ c. search needs) (λ c. search needs) (λ c. search needs) (λ c. omega arith) loop-again returns)
+    (tie.spec Inv-loop μ-loop (λ c. (omega arith, leading-none _ _)) (λ c. search needs) (λ c. search needs) (λ c κs. search needs) (λ c. search needs) (λ c. search needs) (λ c. search needs)
+    (λ c. search needs) (λ c. omega arith) loop-again returns)

@@ -34,6 +34,6 @@ returns c =
 pub eight-spec : {M : Type 1} → statement M
 eight-spec =
     tie.close
-    (tie.spec Inv-loop μ-loop (λ c. (refl, omega arith, λ i l. absurd (omega arith))) (λ c. search needs) (λ c. search needs) (λ c. search needs)
-    (λ c. search needs) (λ c. search needs) (λ c. search needs) (λ c κs. search needs) (λ c. search needs) (λ c. search needs) (λ c. search needs)
-    (λ c. search needs) loop-again (λ c. search needs) (λ c κs. search needs) (λ c. search needs) returns)
+    (tie.spec Inv-loop μ-loop (λ c. (refl, omega arith, λ i l. absurd (omega arith))) (λ c. search needs) (λ c. search needs) (λ c. search needs) (λ c. search needs) (λ c. search needs)
+    (λ c. search needs) (λ c κs. search needs) (λ c. search needs) (λ c. search needs) (λ c. search needs) (λ c. search needs) loop-again (λ c. search needs) (λ c κs. search needs)
+    (λ c. search needs) returns)

@@ -14,11 +14,6 @@ Inv-loop l₀ x m v ones b₀ l b = (length l ≡ length l₀) × (b ≤ 8) × P
 abbrev μ-loop : tie.MeasureT-loop
 μ-loop l₀ x m v ones b₀ l b = 8 - b
 
-eight-requires : tie.Need-eight-requires Inv-loop μ-loop
-eight-requires c κs =
-    let b3 = c .before .before .before in let b6 = b3 .before .before .before in
-    (omega (arith, b3 .loop .inv .0), omega (arith, c .byte .ensures .0, b6 .pre .1 .long))
-
 loop-again : tie.Need-loop-again Inv-loop μ-loop
 loop-again c =
     let b3 = c .before .before .before in let b6 = b3 .before .before .before in let b9 = b6 .before .before .before in
@@ -33,5 +28,6 @@ returns c =
 pub eights-spec : {M : Type 1} → statement M
 eights-spec =
     tie.close
-    (tie.spec Inv-loop μ-loop (λ c. (refl, omega arith, placed-none _ _ _)) (λ c. search needs) (λ c. search needs) (λ c κs. search needs)
-    (λ c. omega (arith, c .byte .ensures .0)) eight-requires (λ c. search needs) (λ c. search needs) loop-again (λ c. c .before .loop .inv .0) returns)
+    (tie.spec Inv-loop μ-loop (λ c. (refl, omega arith, placed-none _ _ _)) (λ c. search needs) (λ c. search needs) (λ c κs. search needs) (λ c. omega (arith, c .byte .ensures .0))
+    (λ c κs. let b3 = c .before .before .before in let b6 = b3 .before .before .before in (omega (arith, b3 .loop .inv .0), omega (arith, c .byte .ensures .0, b6 .pre .1 .long))) (λ c. search needs)
+    (λ c. search needs) loop-again (λ c. c .before .loop .inv .0) returns)

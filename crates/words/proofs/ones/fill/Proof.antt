@@ -26,5 +26,5 @@ returns c = record { long = c .before .loop .inv .0; is = λ i l. c .before .loo
 pub fill-spec : {M : Type 1} → statement M
 fill-spec =
     tie.close
-    (tie.spec Inv-loop μ-loop (λ c. (c .before .pre, omega arith, λ k l. absurd (omega arith))) (λ c. omega arith) (λ c κs. omega arith)
-    (λ c. search needs) (λ c. search needs) (λ c. search needs) (λ c. search needs) loop-again (λ c. search needs) returns)
+    (tie.spec Inv-loop μ-loop (λ c. (c .before .pre, omega arith, λ k l. absurd (omega arith))) (λ c. omega arith) (λ c κs. omega arith) (λ c. search needs) (λ c. search needs) (λ c. search needs)
+    (λ c. search needs) loop-again (λ c. search needs) returns)

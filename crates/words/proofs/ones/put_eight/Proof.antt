@@ -25,6 +25,5 @@ returns c =
 pub put-eight-spec : {M : Type 1} → statement M
 put-eight-spec =
     tie.close
-    (tie.spec Inv-loop μ-loop (λ c. (refl, omega arith, placed-none _ _ _)) (λ c. search needs) (λ c. search needs) (λ c. search needs)
-    (λ c. search needs) (λ c. omega (arith, c .before .before .loop .inv .0)) (λ c. search needs) (λ c. search needs) loop-again
-    (λ c. c .before .loop .inv .0) returns)
+    (tie.spec Inv-loop μ-loop (λ c. (refl, omega arith, placed-none _ _ _)) (λ c. search needs) (λ c. search needs) (λ c. search needs) (λ c. search needs)
+    (λ c. omega (arith, c .before .before .loop .inv .0)) (λ c. search needs) (λ c. search needs) loop-again (λ c. c .before .loop .inv .0) returns)

@@ -4,10 +4,7 @@ use native.Mathlib.Omega.{arith}
 use Rattle.words.proofs.single.last.Statement.{statement}
 use Rattle.words.proofs.single.last.Tie as tie
 
-sub-result : tie.Need-sub-result
-sub-result c = omega (arith, trailing-lt 64 (c .args .x) (c .pre) (c .fits .x .fits))
-
 pub last-spec : {M : Type 1} → statement M
 last-spec =
     tie.close
-    (tie.spec (λ c. omega (arith, trailing-le 64 (c .args .x))) sub-result (λ c. last-bit (c .args .x) (c .pre) (c .fits .x .fits)))
+    (tie.spec (λ c. omega (arith, trailing-le 64 (c .args .x))) (λ c. omega (arith, trailing-lt 64 (c .args .x) (c .pre) (c .fits .x .fits))) (λ c. last-bit (c .args .x) (c .pre) (c .fits .x .fits)))

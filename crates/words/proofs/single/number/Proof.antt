@@ -10,15 +10,6 @@ Inv-loop l₀ x m v left₀ l left = Numbering x m v left l₀ l
 abbrev μ-loop : tie.MeasureT-loop
 μ-loop l₀ x m v left₀ l left = left
 
-add-l : tie.Need-add-l Inv-loop μ-loop
-add-l c = omega (arith, c .before .before .loop .inv .among (c .last .result) (c .last .ensures .1) (c .last .ensures .2))
-
-mul-l : tie.Need-mul-l Inv-loop μ-loop
-mul-l c = omega (arith, c .before .before .loop .inv .among (c .last .result) (c .last .ensures .1) (c .last .ensures .2))
-
-slice-write-l : tie.Need-slice-write-l Inv-loop μ-loop
-slice-write-l c = omega (arith, c .before .before .loop .inv .long, c .before .before .loop .inv .among (c .last .result) (c .last .ensures .1) (c .last .ensures .2))
-
 loop-again : tie.Need-loop-again Inv-loop μ-loop
 loop-again c =
     let b3 = c .before .before .before in
@@ -27,5 +18,8 @@ loop-again c =
 pub number-spec : {M : Type 1} → statement M
 number-spec =
     tie.close
-    (tie.spec Inv-loop μ-loop (λ c. numbering-none _ _ _ _ (c .before .pre)) (λ c κs. search needs) add-l mul-l slice-write-l (λ c κs. search needs)
+    (tie.spec Inv-loop μ-loop (λ c. numbering-none _ _ _ _ (c .before .pre)) (λ c κs. search needs)
+    (λ c. omega (arith, c .before .before .loop .inv .among (c .last .result) (c .last .ensures .1) (c .last .ensures .2)))
+    (λ c. omega (arith, c .before .before .loop .inv .among (c .last .result) (c .last .ensures .1) (c .last .ensures .2)))
+    (λ c. omega (arith, c .before .before .loop .inv .long, c .before .before .loop .inv .among (c .last .result) (c .last .ensures .1) (c .last .ensures .2))) (λ c κs. search needs)
     (λ c. c .without-last .ensures .1) loop-again (λ c. c .before .loop .inv .long) (λ c. numbering-all _ _ _ _ _ _ (omega arith) (c .before .loop .inv)))
