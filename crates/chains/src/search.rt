@@ -6,6 +6,7 @@ ghost use mathlib.Core.Bool.{true};
 ghost use Prim.Native.Nat.{ℕ, _+_, _-_, _*_, _<_, _≤_};
 ghost use lib.ListN.{length};
 ghost use Rattle.rules.specs.Planning.{near};
+ghost use Rattle.rules.specs.Reach.{mostBound};
 ghost use Rattle.laws.specs.Discs.{Halves};
 ghost use Rattle.image.specs.Rows.{packed, Clean};
 ghost use Rattle.words.specs.Words.{wordBit, Ones};
@@ -57,7 +58,7 @@ fn in_row(
     q: Bound,
     ringed: bool,
 ) -> usize
-    requires fits { ⌜ (Sized w h × (r < h)) × (q .0 ≤ 1024) ⌝ }
+    requires fits { ⌜ (Sized w h × (r < h)) × (q .0 ≤ mostBound) ⌝ }
     requires planes { ⌜ Planes w h (now low) (now up) (now below) (now above) (now rings) × Drawn w h (packed w (now low)) (now disc) ⌝ }
     requires table { ⌜ Halves (q .0) (now halves) ⌝ }
     ensures { λ s. ⌜ FirstOf 0 w (λ c. amissHere ringed w h (q .0) (now (low .entry)) (now (up .entry)) (now (below .entry)) (now (above .entry)) (now (rings .entry)) (r * w + c)) s ⌝ }
@@ -85,7 +86,7 @@ fn in_rows(
     q: Bound,
     ringed: bool,
 ) -> usize
-    requires fits { ⌜ Sized w h × (q .0 ≤ 1024) ⌝ }
+    requires fits { ⌜ Sized w h × (q .0 ≤ mostBound) ⌝ }
     requires planes { ⌜ Planes w h (now low) (now up) (now below) (now above) (now rings) × Drawn w h (packed w (now low)) (now disc) ⌝ }
     requires table { ⌜ Halves (q .0) (now halves) ⌝ }
     ensures { λ s. ⌜ FirstOf 0 (h * w) (amissHere ringed w h (q .0) (now (low .entry)) (now (up .entry)) (now (below .entry)) (now (above .entry)) (now (rings .entry))) s ⌝ }
@@ -137,7 +138,7 @@ fn in_pair(
     t: u16,
     ringed: bool,
 ) -> usize
-    requires fits { ⌜ (Sized w h × ((2 * (t * t) ≤ q .0) × (q .0 ≤ 1024))) × Clean w h (now low) ⌝ }
+    requires fits { ⌜ (Sized w h × ((2 * (t * t) ≤ q .0) × (q .0 ≤ mostBound))) × Clean w h (now low) ⌝ }
     requires planes { ⌜ Planes w h (now low) (now up) (now below) (now above) (now rings) × (Ones (now ones) × Halves (q .0) (now halves)) ⌝ }
     ensures { λ s. ⌜ FirstOf 0 (h * w) (amissHere ringed w h (q .0) (now (low .entry)) (now (up .entry)) (now (below .entry)) (now (above .entry)) (now (rings .entry))) s ⌝ }
 {
@@ -165,7 +166,7 @@ fn in_pairs(
     ringed: bool,
 ) -> usize
     requires fits { ⌜ Whole w h n (now part) (now sup) (now rings) ⌝ }
-    requires scratch { ⌜ (Ones (now ones) × Halves (q .0) (now halves)) × ((2 * (t * t) ≤ q .0) × (q .0 ≤ 1024)) ⌝ }
+    requires scratch { ⌜ (Ones (now ones) × Halves (q .0) (now halves)) × ((2 * (t * t) ≤ q .0) × (q .0 ≤ mostBound)) ⌝ }
     ensures { λ s. ⌜ FirstOf 0 ((n - 1) * (h * w)) (flat w h (amissIn ringed w h (q .0) (now (part .entry)) (now (sup .entry)) (now (rings .entry)))) s ⌝ }
 {
     let bytes = h * limits::row_bytes(w);
@@ -212,7 +213,7 @@ pub fn first(
     q: Bound,
     ringed: bool,
 ) -> usize
-    requires { ⌜ Whole w h n (now part) (now sup) (now rings) × (q .0 ≤ 1024) ⌝ }
+    requires { ⌜ Whole w h n (now part) (now sup) (now rings) × (q .0 ≤ mostBound) ⌝ }
     ensures { λ s. ⌜ FirstOf 0 ((n - 1) * (h * w)) (flat w h (amissIn ringed w h (q .0) (now (part .entry)) (now (sup .entry)) (now (rings .entry)))) s ⌝ }
 {
     let mut ones = [0u16; 2048];

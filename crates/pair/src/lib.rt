@@ -7,6 +7,7 @@ ghost use mathlib.Core.Bool.{true, false, not, _&&_, _||_};
 ghost use Prim.Native.Nat.{ℕ, _*_, _<_, _≤_};
 ghost use lib.ListN.{length, getD};
 ghost use Rattle.rules.specs.Images.{rowBytes};
+ghost use Rattle.rules.specs.Reach.{mostBound};
 ghost use Rattle.laws.specs.Discs.{Halves};
 ghost use Rattle.image.specs.Loops.{Bits, butNot};
 ghost use Rattle.image.specs.Rows.{packed, Clean, Packs};
@@ -65,7 +66,7 @@ fn hanging(
     half: &[usize],
     ones: &[u16],
 )
-    requires { ⌜ Sizes w h × (n ≡ rowBytes w) × (q .0 ≤ 1024) × Halves (q .0) (now half) × Ones (now ones) ⌝ }
+    requires { ⌜ Sizes w h × (n ≡ rowBytes w) × (q .0 ≤ mostBound) × Halves (q .0) (now half) × Ones (now ones) ⌝ }
     requires { ⌜ Clean w h (now low) × Clean w h (now up) × (length (now out) ≡ h * rowBytes w) × (length (now ring) ≡ h * w) × ((p : ℕ) → p < h * w → getD (now ring) p 0 ≡ 0) ⌝ }
     requires { ⌜ Spare w h (now left) (now got) (now front) (now next) (now seed) (now lower) (now ahead) ⌝ }
     ensures { λ _. ⌜ now (ring .exit) ≡ pairRings w h (q .0) (packed w (now (low .entry))) (packed w (now (up .entry))) ⌝ }
@@ -116,7 +117,7 @@ pub fn layer(
     half: &[usize],
     ones: &[u16],
 )
-    requires { ⌜ Sizes w h × (n ≡ rowBytes w) × (q .0 ≤ 1024) × Halves (q .0) (now half) × Ones (now ones) ⌝ }
+    requires { ⌜ Sizes w h × (n ≡ rowBytes w) × (q .0 ≤ mostBound) × Halves (q .0) (now half) × Ones (now ones) ⌝ }
     requires { ⌜ Clean w h (now low) × Clean w h (now up) × Clean w h (now above) × (length (now out) ≡ h * rowBytes w) × (length (now ring) ≡ h * w) ⌝ }
     requires { ⌜ ((p : ℕ) → p < h * w → packed w (now above) p ≡ true → packed w (now up) p ≡ true → ⊥) ⌝ }
     requires { ⌜ Spare w h (now left) (now got) (now front) (now next) (now seed) (now lower) (now ahead) ⌝ }

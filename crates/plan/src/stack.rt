@@ -6,6 +6,7 @@ ghost use Prim.Native.Nat.{suc, _+_, _-_, _*_, _<_, _≤_};
 ghost use lib.ListN.{length};
 ghost use Rattle.rules.specs.Images.{rowBytes, paddingSet};
 ghost use Rattle.rules.specs.Planning.{plannedRings, plannedBytes};
+ghost use Rattle.rules.specs.Reach.{mostBound};
 ghost use Rattle.laws.specs.Discs.{Halves};
 ghost use Rattle.words.specs.Words.{Ones};
 ghost use Rattle.image.specs.Rows.{Packs, plane, OnlyPlane};
@@ -46,7 +47,7 @@ fn layer_at(
     half: &[usize],
     ones: &[u16],
 )
-    requires { ⌜ Sized w h rb × (q .0 ≤ 1024) × (suc i < n) × Halves (q .0) (now half) × Ones (now ones) ⌝ }
+    requires { ⌜ Sized w h rb × (q .0 ≤ mostBound) × (suc i < n) × Halves (q .0) (now half) × Ones (now ones) ⌝ }
     requires { ⌜ Buffers w h n (now part) (now support) (now rings) ⌝ }
     requires { ⌜ Down w h n (q .0) (i + 1) (now part) (now support) (now rings) (now above) ⌝ }
     requires { ⌜ Spare w h (now left) (now got) (now front) (now next) (now seed) (now lower) (now ahead) ⌝ }
@@ -102,7 +103,7 @@ fn layers(
     half: &[usize],
     ones: &[u16],
 )
-    requires { ⌜ Sized w h rb × (q .0 ≤ 1024) × (0 < n) × Halves (q .0) (now half) × Ones (now ones) ⌝ }
+    requires { ⌜ Sized w h rb × (q .0 ≤ mostBound) × (0 < n) × Halves (q .0) (now half) × Ones (now ones) ⌝ }
     requires { ⌜ Buffers w h n (now part) (now support) (now rings) ⌝ }
     requires { ⌜ Down w h n (q .0) (n - 1) (now part) (now support) (now rings) (now above) ⌝ }
     requires { ⌜ Spare w h (now left) (now got) (now front) (now next) (now seed) (now lower) (now ahead) ⌝ }
@@ -158,7 +159,7 @@ pub fn stack(
     rb: usize,
     q: Bound,
 )
-    requires { ⌜ Sized w h rb × (q .0 ≤ 1024) × (0 < n) ⌝ }
+    requires { ⌜ Sized w h rb × (q .0 ≤ mostBound) × (0 < n) ⌝ }
     requires { ⌜ Buffers w h n (now part) (now support) (now rings) ⌝ }
     ensures { λ _. ⌜ now (support .exit) ≡ plannedBytes w h n (λ k. q .0) (now (part .entry)) ⌝ }
     ensures { λ _. ⌜ now (rings .exit) ≡ plannedRings w h n (λ k. q .0) (now (part .entry)) ⌝ }

@@ -8,7 +8,7 @@ use native.Mathlib.Nat.{mul-le-mul}
 use native.Mathlib.Omega.{arith}
 use native.Mathlib.Decide.{decLt, decLe}
 use Rattle.rules.specs.Planning.{near}
-use Rattle.rules.specs.Reach.{apart, halfWidth, root, square}
+use Rattle.rules.specs.Reach.{apart, halfWidth, root, square, mostBound}
 use lib.ListN.{getD}
 use Rattle.laws.specs.Discs.{Halves, half-width, half-small, root-is, root-low, root-most}
 use Rattle.laws.specs.Neighbours.{near-is}
@@ -47,7 +47,7 @@ half-mono q d e ld le =
 pub half-less : (q d : ℕ) → 0 < d → d * d ≤ q → halfWidth q d ≤ halfWidth q (d - 1)
 half-less q d p l = half-mono q d (d - 1) l (omega arith)
 
-pub half-max : (q d : ℕ) → q ≤ 1024 → halfWidth q d ≤ 32
+pub half-max : (q d : ℕ) → q ≤ mostBound → halfWidth q d ≤ 32
 half-max = half-small
 
 -- the table of half-widths has them

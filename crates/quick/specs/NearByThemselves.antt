@@ -8,7 +8,7 @@ use lib.Dec.{ltb}
 use borrow.Author.Tests.{lt-ltb, le-ltb, ltb-true, ltb-false, eq-eqb}
 use Rattle.rules.specs.Demands.{Joined, start, onward}
 use Rattle.rules.specs.Images.{Plane}
-use Rattle.rules.specs.Reach.{square, root}
+use Rattle.rules.specs.Reach.{square, root, mostBound}
 use Rattle.rules.specs.Planning.{shadow, near, seeds, reached, source, touch, touching, fits}
 use Rattle.laws.specs.Tests.{split, clash, and-l, and-r, and-in, not-out, some-in}
 use Rattle.laws.specs.Discs.{root-low, root-small}
@@ -77,7 +77,7 @@ unfolding badHere
 no-rings w h q low up ring p l = rw (le-ltb 0 (ring p) l)
 
 -- the largest ring that is near by itself: the root of half the bound
-pub trust-small : (q r : ℕ) → q ≤ 1024 → r ≡ root (q / 2) → r ≤ 32
+pub trust-small : (q r : ℕ) → q ≤ mostBound → r ≡ root (q / 2) → r ≤ 32
 trust-small q r l e = rw e (root-small (q / 2) (omega arith))
 
 pub trust-fits : (q r t : ℕ) → r ≡ root (q / 2) → t ≡ r → 2 * (t * t) ≤ q

@@ -10,6 +10,7 @@ ghost use Prim.Native.Nat.{ℕ, _+_, _*_, _<_, _≤_};
 ghost use lib.ListN.{length, getD};
 ghost use Rattle.rules.specs.Images.{rowBytes};
 ghost use Rattle.rules.specs.Planning.{near};
+ghost use Rattle.rules.specs.Reach.{mostBound};
 ghost use Rattle.laws.specs.Discs.{Halves};
 ghost use Rattle.image.specs.Rows.{packed, Clean};
 ghost use Rattle.words.specs.Words.{column, wordBit, Ones};
@@ -138,7 +139,7 @@ fn near_all(
     q: Bound,
     drawn: bool,
 ) -> Close
-    requires fits { ⌜ (Sized w h × (r < h)) × (Clean w h (now low) × (Halves (q .0) (now halves) × (q .0 ≤ 1024))) ⌝ }
+    requires fits { ⌜ (Sized w h × (r < h)) × (Clean w h (now low) × (Halves (q .0) (now halves) × (q .0 ≤ mostBound))) ⌝ }
     requires scratch { ⌜ Ready w h (now disc) × (drawn ≡ true → Drawn w h (packed w (now low)) (now disc)) ⌝ }
     ensures { λ s. ⌜ (s .good ≡ true → (c : ℕ) → c < w → column far c ≡ true → near w h (q .0) (packed w (now (low .entry))) (r * w + c) ≡ true) ⌝ }
     ensures { λ s. ⌜ Ready w h (now (disc .exit)) × (s .drawn ≡ true → Drawn w h (packed w (now (low .entry))) (now (disc .exit))) ⌝ }
@@ -169,7 +170,7 @@ fn rows(
     t: u16,
 ) -> Sure
     requires fits { ⌜ Sized w h × (Clean w h (now low) × (Long (h * rowBytes w) (now low) (now up) (now below) (now below) × (length (now rings) ≡ h * w))) ⌝ }
-    requires scratch { ⌜ (Ones (now ones) × Halves (q .0) (now halves)) × (Ready w h (now disc) × (q .0 ≤ 1024)) ⌝ }
+    requires scratch { ⌜ (Ones (now ones) × Halves (q .0) (now halves)) × (Ready w h (now disc) × (q .0 ≤ mostBound)) ⌝ }
     ensures { λ s. ⌜ (s .rings ≡ true → (r : ℕ) → r < h → Row-good w h (q .0) t (now (low .entry)) (now (up .entry)) (now (rings .entry)) r) ⌝ }
     ensures { λ s. ⌜ (s .held ≡ true → (r : ℕ) → r < h → Row-held w (now (low .entry)) (now (up .entry)) (now (below .entry)) (now (rings .entry)) r) ⌝ }
 {
@@ -224,7 +225,7 @@ fn shaded_pair(
     t: u16,
 ) -> Sure
     requires fits { ⌜ Sized w h × (Clean w h (now low) × (Long (h * rowBytes w) (now low) (now up) (now below) (now below) × (length (now rings) ≡ h * w))) ⌝ }
-    requires tables { ⌜ (Ones (now ones) × Halves (q .0) (now halves)) × (q .0 ≤ 1024) ⌝ }
+    requires tables { ⌜ (Ones (now ones) × Halves (q .0) (now halves)) × (q .0 ≤ mostBound) ⌝ }
     ensures { λ s. ⌜ (s .rings ≡ true → (r : ℕ) → r < h → Row-good w h (q .0) t (now (low .entry)) (now (up .entry)) (now (rings .entry)) r) ⌝ }
     ensures { λ s. ⌜ (s .held ≡ true → (r : ℕ) → r < h → Row-held w (now (low .entry)) (now (up .entry)) (now (below .entry)) (now (rings .entry)) r) ⌝ }
 {
@@ -249,7 +250,7 @@ pub fn pair(
     q: Bound,
     t: u16,
 ) -> Sure
-    requires fits { ⌜ (Sized w h × ((2 * (t * t) ≤ q .0) × (q .0 ≤ 1024))) × (Clean w h (now low) × (length (now rings) ≡ h * w)) ⌝ }
+    requires fits { ⌜ (Sized w h × ((2 * (t * t) ≤ q .0) × (q .0 ≤ mostBound))) × (Clean w h (now low) × (length (now rings) ≡ h * w)) ⌝ }
     requires planes { ⌜ Long (h * rowBytes w) (now low) (now up) (now below) (now above) × (Ones (now ones) × Halves (q .0) (now halves)) ⌝ }
     ensures { λ s. ⌜ (s .rings ≡ true → (p : ℕ) → p < h * w → badHere w h (q .0) (packed w (now (low .entry))) (packed w (now (up .entry))) (λ o. getD (now (rings .entry)) o 0) p ≡ false) ⌝ }
     ensures { λ s. ⌜ (s .held ≡ true → (p : ℕ) → p < h * w →

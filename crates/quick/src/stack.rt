@@ -6,6 +6,7 @@ ghost use Prim.Native.Nat.{ℕ, _-_, _*_, _<_, _≤_};
 ghost use Rattle.laws.specs.Discs.{Halves};
 ghost use Rattle.words.specs.Words.{Ones};
 ghost use Rattle.quick.specs.Sureness.{Whole, Fine};
+ghost use Rattle.rules.specs.Reach.{mostBound};
 
 // Whether no ring of the stack is bad and nothing in it is unheld, pair by pair.
 fn pairs(
@@ -21,7 +22,7 @@ fn pairs(
     t: u16,
 ) -> bool
     requires fits { ⌜ Whole w h n (now part) (now sup) (now rings) ⌝ }
-    requires scratch { ⌜ (Ones (now ones) × Halves (q .0) (now halves)) × ((2 * (t * t) ≤ q .0) × (q .0 ≤ 1024)) ⌝ }
+    requires scratch { ⌜ (Ones (now ones) × Halves (q .0) (now halves)) × ((2 * (t * t) ≤ q .0) × (q .0 ≤ mostBound)) ⌝ }
     ensures { λ b. ⌜ (b ≡ true → (x : ℕ) → x < (n - 1) * (h * w) → Fine w h (q .0) (now (part .entry)) (now (sup .entry)) (now (rings .entry)) x) ⌝ }
 {
     let bytes = h * limits::row_bytes(w);
@@ -65,7 +66,7 @@ fn narrow(x: usize) -> u16
 
 // The largest ring that is near by itself, for the bound q on squared distances.
 pub fn trusted(q: Bound) -> u16
-    requires { ⌜ q .0 ≤ 1024 ⌝ }
+    requires { ⌜ q .0 ≤ mostBound ⌝ }
     ensures { λ t. ⌜ 2 * (t * t) ≤ q .0 ⌝ }
 {
     narrow(roots::root(q.0 / 2))
@@ -73,7 +74,7 @@ pub fn trusted(q: Bound) -> u16
 
 // Whether no ring of the stack is bad and nothing in it is unheld. Only a yes is relied on.
 pub fn sure(part: &[u8], sup: &[u8], rings: &[u16], w: usize, h: usize, n: usize, q: Bound) -> bool
-    requires { ⌜ Whole w h n (now part) (now sup) (now rings) × (q .0 ≤ 1024) ⌝ }
+    requires { ⌜ Whole w h n (now part) (now sup) (now rings) × (q .0 ≤ mostBound) ⌝ }
     ensures { λ b. ⌜ (b ≡ true → (x : ℕ) → x < (n - 1) * (h * w) → Fine w h (q .0) (now (part .entry)) (now (sup .entry)) (now (rings .entry)) x) ⌝ }
 {
     let mut ones = [0u16; 2048];

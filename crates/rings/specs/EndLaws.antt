@@ -10,7 +10,7 @@ use lib.Dec.{ltb, eqb, leb}
 use lib.ListN.{getD, length}
 use lib.Seq.{ext-getD}
 use Rattle.rules.specs.Images.{Plane}
-use Rattle.rules.specs.Reach.{distance², square, root}
+use Rattle.rules.specs.Reach.{distance², square, root, mostBound}
 use Rattle.laws.specs.Discs.{root-low, root-most, root-small}
 use Rattle.rules.specs.Planning.{touch, touching, source, near, grown}
 use Rattle.laws.specs.Growing.{bounded, born, path, grown-same, after-zero, length-grown}
@@ -233,7 +233,7 @@ pub near-by-itself : (w h q t : ℕ) (low over seed : Plane) → square t ≤ q 
 unfolding square
 near-by-itself w h q t low over seed l below k p lp lk j = near-itself w h over seed q t low (omega arith) below lk j
 
-pub waves-few : (q : ℕ) → 2 ≤ q → q ≤ 1024 → (0 < root (q / 2)) × (root (q / 2) ≤ 32)
+pub waves-few : (q : ℕ) → 2 ≤ q → q ≤ mostBound → (0 < root (q / 2)) × (root (q / 2) ≤ 32)
 unfolding square
 waves-few q a b = (omega (arith, root-most (q / 2) 1 (omega arith)), root-small (q / 2) (omega arith))
 

@@ -5,6 +5,7 @@ ghost use mathlib.Core.Bool.{false};
 ghost use Prim.Native.Nat.{ℕ, _+_, _*_, _<_, _≤_};
 ghost use lib.ListN.{length};
 ghost use Rattle.rules.specs.Images.{rowBytes};
+ghost use Rattle.rules.specs.Reach.{mostBound};
 ghost use Rattle.laws.specs.Discs.{Halves};
 ghost use Rattle.image.specs.Rows.{packed, Clean};
 ghost use Rattle.words.specs.Words.{wordBit};
@@ -26,7 +27,7 @@ pub fn read_plane(s: &[u8], out: &mut [u64], w: usize, h: usize, n: usize)
 
 // Drops the pixels of row y that are not near.
 fn drop_row(low: &[u64], left: &mut [u64], y: usize, half: &[usize], q: Bound)
-    requires { ⌜ (length (now low) ≡ 1610) × (length (now left) ≡ 1610) × (y < 256) × (q .0 ≤ 1024) × Halves (q .0) (now half) ⌝ }
+    requires { ⌜ (length (now low) ≡ 1610) × (length (now left) ≡ 1610) × (y < 256) × (q .0 ≤ mostBound) × Halves (q .0) (now half) ⌝ }
     ensures { λ _. ⌜ ((w h : ℕ) → Sizes w h → Framed w h (now (low .entry)) → Framed w h (now (left .entry)) → y < h →
         RowBits (y + 33) (nearBits w h (q .0) (now (low .entry)) (now (left .entry))) (now (left .entry)) (now (left .exit))) ⌝ }
 {
@@ -48,7 +49,7 @@ pub fn drop_far(
     q: Bound,
     half: &[usize],
 )
-    requires { ⌜ Sizes w h × Aheads h (now ahead) × Ready w h (now low) × Room w h (now ahead) (now left) × (q .0 ≤ 1024) × Halves (q .0) (now half) ⌝ }
+    requires { ⌜ Sizes w h × Aheads h (now ahead) × Ready w h (now low) × Room w h (now ahead) (now left) × (q .0 ≤ mostBound) × Halves (q .0) (now half) ⌝ }
     ensures { λ _. ⌜ ((j : ℕ) → wordBit (now (left .exit)) j ≡ nearBits w h (q .0) (now (low .entry)) (now (left .entry)) j) ⌝ }
 {
     let mut y = ahead[0];

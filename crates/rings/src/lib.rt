@@ -7,6 +7,7 @@ ghost use mathlib.Core.Bool.{Bool, true, false};
 ghost use Prim.Native.Nat.{ℕ, _+_, _*_, _<_, _≤_};
 ghost use lib.ListN.{length, getD};
 ghost use Rattle.rules.specs.Images.{rowBytes};
+ghost use Rattle.rules.specs.Reach.{mostBound};
 ghost use Rattle.laws.specs.Discs.{Halves};
 ghost use Rattle.image.specs.Rows.{packed, Clean};
 ghost use Rattle.words.specs.Words.{Ones, wordBit};
@@ -58,7 +59,7 @@ fn farther(
 )
     requires { ⌜ WavePlanes w h (now ahead) (now front) (now left) (now got) (now ring) ⌝ }
     requires { ⌜ Rooms w h (now ahead) (now left) (now got) (now front) (now next) (now lower) ⌝ }
-    requires { ⌜ (n ≡ rowBytes w) × Clean w h (now low) × (q .0 ≤ 1024) × (0 < k) × (k < 65536) × Halves (q .0) (now half) × Ones (now ones) ⌝ }
+    requires { ⌜ (n ≡ rowBytes w) × Clean w h (now low) × (q .0 ≤ mostBound) × (0 < k) × (k < 65536) × Halves (q .0) (now half) × Ones (now ones) ⌝ }
     ensures { λ _. ⌜ Rooms w h (now (ahead .entry)) (now (left .exit)) (now (got .exit)) (now (front .exit)) (now (next .exit)) (now (lower .exit)) ⌝ }
     ensures { λ _. ⌜ ((over seed : ℕ → Bool) → NearWaves w h (q .0) k (packed w (now (low .entry))) over seed (now (front .entry)) (now (left .entry)) (now (got .entry)) (now (ring .entry))
         → Whole w h (nearIn w h (q .0) (packed w (now (low .entry))) over) seed (now (got .exit)) (now (ring .exit))) ⌝ }
@@ -106,7 +107,7 @@ fn waves_first(
 )
     requires { ⌜ WavePlanes w h (now ahead) (now seed) (now left) (now got) (now ring) ⌝ }
     requires { ⌜ Rooms w h (now ahead) (now left) (now got) (now front) (now next) (now lower) ⌝ }
-    requires { ⌜ (n ≡ rowBytes w) × Clean w h (now low) × (q .0 ≤ 1024) × (0 < t) × (t ≤ 32) × Halves (q .0) (now half) × Ones (now ones) ⌝ }
+    requires { ⌜ (n ≡ rowBytes w) × Clean w h (now low) × (q .0 ≤ mostBound) × (0 < t) × (t ≤ 32) × Halves (q .0) (now half) × Ones (now ones) ⌝ }
     ensures { λ _. ⌜ Rooms w h (now (ahead .entry)) (now (left .exit)) (now (got .exit)) (now (front .exit)) (now (next .exit)) (now (lower .exit)) ⌝ }
     ensures { λ _. ⌜ ((shadow seeds : ℕ → Bool) → Waved w h 0 shadow seeds (now (seed .entry)) (now (left .entry)) (now (got .entry)) (now (ring .entry)) → Apart w h shadow seeds
         → NearBy w h (q .0) t (packed w (now (low .entry))) shadow seeds → Whole w h (nearIn w h (q .0) (packed w (now (low .entry))) shadow) seeds (now (got .exit)) (now (ring .exit))) ⌝ }
@@ -159,7 +160,7 @@ pub fn rings(
 )
     requires { ⌜ WavePlanes w h (now ahead) (now seed) (now left) (now got) (now ring) ⌝ }
     requires { ⌜ Rooms w h (now ahead) (now left) (now got) (now front) (now next) (now lower) ⌝ }
-    requires { ⌜ (n ≡ rowBytes w) × Clean w h (now low) × (q .0 ≤ 1024) × Halves (q .0) (now half) × Ones (now ones) ⌝ }
+    requires { ⌜ (n ≡ rowBytes w) × Clean w h (now low) × (q .0 ≤ mostBound) × Halves (q .0) (now half) × Ones (now ones) ⌝ }
     ensures { λ _. ⌜ Rooms w h (now (ahead .entry)) (now (left .exit)) (now (got .exit)) (now (front .exit)) (now (next .exit)) (now (lower .exit)) ⌝ }
     ensures { λ _. ⌜ ((shadow seeds : ℕ → Bool) → Waved w h 0 shadow seeds (now (seed .entry)) (now (left .entry)) (now (got .entry)) (now (ring .entry)) → Apart w h shadow seeds
         → ((p : ℕ) → p < h * w → seeds p ≡ true → packed w (now (low .entry)) p ≡ true) →

@@ -11,7 +11,7 @@ ghost use Rattle.laws.specs.Discs.{Halves};
 
 // The root of m, from the table.
 pub fn root(m: usize) -> usize
-    requires { ⌜ m ≤ 1024 ⌝ }
+    requires { ⌜ m ≤ rule.mostBound ⌝ }
     ensures { λ r. ⌜ r ≡ rule.root m ⌝ }
 {
     numbers::wide(table::ROOTS[m])
@@ -19,7 +19,7 @@ pub fn root(m: usize) -> usize
 
 // How far the disc with squared radius q runs to each side in a row d away from its middle.
 pub fn half_width(q: Bound, d: Pixels) -> Pixels
-    requires { ⌜ (d .0 < 33) × ((d .0 * d .0 ≤ q .0) × (q .0 ≤ 1024)) ⌝ }
+    requires { ⌜ (d .0 < rule.mostRows) × ((d .0 * d .0 ≤ q .0) × (q .0 ≤ rule.mostBound)) ⌝ }
     ensures { λ r. ⌜ r .0 ≡ rule.halfWidth (q .0) (d .0) ⌝ }
 {
     let k = d.0;
@@ -28,7 +28,7 @@ pub fn half_width(q: Bound, d: Pixels) -> Pixels
 
 // The half-widths of the disc with squared radius q, from its middle row on.
 pub fn halves(q: usize, out: &mut [usize])
-    requires { ⌜ (q ≤ 1024) × (length (now out) ≡ 33) ⌝ }
+    requires { ⌜ (q ≤ rule.mostBound) × (length (now out) ≡ rule.mostRows) ⌝ }
     ensures { λ _. ⌜ Halves q (now (out .exit)) ⌝ }
 {
     let mut d: usize = 0;
