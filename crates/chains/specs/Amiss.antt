@@ -1,5 +1,5 @@
 -- What the searches look for, one definition for both: a bad ring, or an unheld pixel.
-use mathlib.Core.Path.{_≡_, refl, ap, _∙_}
+use mathlib.Core.Path.{_≡_, refl, _∙_}
 use mathlib.Core.Bool.{Bool, true, false}
 use mathlib.Core.List.{List}
 use Prim.Native.Nat.{ℕ, _+_, _-_, _*_, _<_, _≤_}
@@ -13,7 +13,8 @@ use Rattle.places.specs.Search.{badHere, unheldHere, flat, Sized}
 use Rattle.words.specs.Words.{Within}
 use Rattle.planes.specs.Scratch.{Sizes, Framed, Drawn, seen}
 use Rattle.places.specs.Planes.{cut, bad-plane, unheld-plane}
-use Rattle.places.specs.Rows.{lower-length, upper-length, rings-length}
+use Rattle.places.specs.Rows.{lower-length, upper-length}
+use Rattle.quick.specs.Stacks.{bytes-is, pair-count}
 use Rattle.quick.specs.Sureness.{Whole, Long}
 use Rattle.quick.specs.RowsOfPair.{put-four}
 use Rattle.quick.specs.Layers.{sizes-of, near-drawn}
@@ -78,25 +79,25 @@ pub amiss-row : (ringed : Bool) (w h q : ℕ) (low up below above rings : List �
     → amissHere ringed w h q low up below above rings (x + c) ≡ amissHere ringed w h q low up below above rings (r * w + c)
 amiss-row ringed w h q low up below above rings r x e c l = rw e
 
-module _ (w h n i rb at x : ℕ) (part sup rings : List ℕ) (W : Whole w h n part sup rings) (er : rb ≡ rowBytes w) (ea : at ≡ i * (h * rb)) (ex : x ≡ i * (h * w)) (l : i + 1 < n) where
-  bytes-is : h * rb ≡ h * rowBytes w
-  bytes-is = ap (λ (b : ℕ). h * b) er
-
+module _ {w h n rb at x : ℕ} {part sup rings : List ℕ} (i : ℕ) (W : Whole w h n part sup rings) (B : (rb ≡ rowBytes w) × (rb ≤ 32)) (ea : at ≡ i * (h * rb)) (ex : x ≡ i * (h * w))
+    (l : i + 1 < n) where
   pub pair-planes : Planes w h (cut at (at + h * rb) part) (cut (at + h * rb) (at + h * rb + h * rb) part) (cut at (at + h * rb) sup) (cut (at + h * rb) (at + h * rb + h * rb) sup)
       (cut x (x + h * w) rings)
   pair-planes =
+      let e = bytes-is i W B ea ex l in
       let li : i < n - 1 = omega arith in
       record {
-        low-long = lower-length w h n i at (h * rb) x bytes-is ea ex li part (W .part-long);
-        up-long = upper-length w h n i at (h * rb) x bytes-is ea ex li part (W .part-long);
-        below-long = lower-length w h n i at (h * rb) x bytes-is ea ex li sup (W .sup-long);
-        above-long = upper-length w h n i at (h * rb) x bytes-is ea ex li sup (W .sup-long);
-        rings-long = rings-length w h n i at (h * rb) x bytes-is ea ex li rings (W .rings-long);
+        low-long = lower-length w h n i at (h * rb) x e ea ex li part (W .part-long);
+        up-long = upper-length w h n i at (h * rb) x e ea ex li part (W .part-long);
+        below-long = lower-length w h n i at (h * rb) x e ea ex li sup (W .sup-long);
+        above-long = upper-length w h n i at (h * rb) x e ea ex li sup (W .sup-long);
+        rings-long = pair-count i W B ea ex l;
       }
 
   pub amiss-pair : (ringed : Bool) (q p : ℕ) → p < h * w → flat w h (amissIn ringed w h q part sup rings) (x + p)
       ≡ amissHere ringed w h q (cut at (at + h * rb) part) (cut (at + h * rb) (at + h * rb + h * rb) part) (cut at (at + h * rb) sup) (cut (at + h * rb) (at + h * rb + h * rb) sup)
       (cut x (x + h * w) rings) p
   unfolding amissIn amissHere
-  amiss-pair true q p lp = bad-plane w h i (h * rb) (h * w) at x (at + h * rb) (at + h * rb + h * rb) (x + h * w) bytes-is refl ea ex refl refl refl (λ (j : ℕ). q) q part rings refl p lp
-  amiss-pair false q p lp = unheld-plane w h i (h * rb) (h * w) at x (at + h * rb) (at + h * rb + h * rb) (x + h * w) bytes-is refl ea ex refl refl refl part sup rings p lp
+  amiss-pair true q p lp =
+      bad-plane w h i (h * rb) (h * w) at x (at + h * rb) (at + h * rb + h * rb) (x + h * w) (bytes-is i W B ea ex l) refl ea ex refl refl refl (λ (j : ℕ). q) q part rings refl p lp
+  amiss-pair false q p lp = unheld-plane w h i (h * rb) (h * w) at x (at + h * rb) (at + h * rb + h * rb) (x + h * w) (bytes-is i W B ea ex l) refl ea ex refl refl refl part sup rings p lp

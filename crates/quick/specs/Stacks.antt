@@ -25,10 +25,10 @@ cut-clean w h n i a k s ea ek l long clear =
     rw (z, ea, ek) (plane-clean w h n s long clear i l)
 
 -- pair i, whose planes have their bytes from `at` on and whose rings start at x
-module _ (w h n i rb at x : ℕ) (part sup rings : List ℕ) (W : Whole w h n part sup rings) (er : rb ≡ rowBytes w) (sb : rb ≤ 32) (ea : at ≡ i * (h * rb)) (ex : x ≡ i * (h * w))
+module _ {w h n rb at x : ℕ} {part sup rings : List ℕ} (i : ℕ) (W : Whole w h n part sup rings) (B : (rb ≡ rowBytes w) × (rb ≤ 32)) (ea : at ≡ i * (h * rb)) (ex : x ≡ i * (h * w))
     (l : i + 1 < n) where
-  bytes-is : h * rb ≡ h * rowBytes w
-  bytes-is = ap (λ (b : ℕ). h * b) er
+  pub bytes-is : h * rb ≡ h * rowBytes w
+  bytes-is = ap (λ (b : ℕ). h * b) (B .0)
 
   li : i < n - 1
   li = omega arith
@@ -45,7 +45,7 @@ module _ (w h n i rb at x : ℕ) (part sup rings : List ℕ) (W : Whole w h n pa
   pair-fits =
       let p = pair-in w h n i at (h * rb) x bytes-is ea ex li in
       let a : (n - 1) * (h * w) ≤ 512 * 65536 = stack-fit (n - 1) (h * w) 65536 (omega (arith, W .n-high)) (area-fit w h (W .sized)) in
-      let b : n * (h * rb) ≤ 512 * 8192 = stack-fit n (h * rb) 8192 (W .n-high) (bytes-fit w h rb (W .sized) sb) in
+      let b : n * (h * rb) ≤ 512 * 8192 = stack-fit n (h * rb) 8192 (W .n-high) (bytes-fit w h rb (W .sized) (B .1)) in
       let c : n * (h * rb) ≡ n * h * rowBytes w = ap (λ (k : ℕ). n * k) bytes-is ∙ sym (mul-assoc n h (rowBytes w)) in
       (omega (arith, p .0), omega (arith, p .1))
 

@@ -3,7 +3,7 @@ use mathlib.Core.Path.{_≡_, refl, sym, ap, subst, _∙_}
 use mathlib.Core.List.{List, [], _∷_}
 use mathlib.Core.Bool.{true, false, _&&_}
 use mathlib.Core.Logic.{_⊎_, inl, inr, ⊎-elim}
-use Prim.Native.Nat.{ℕ, zero, suc, _+_, _*_, _≤_, _<_, zero-le}
+use Prim.Native.Nat.{ℕ, zero, suc, _+_, _*_, _≤_, _%_, _<_, zero-le}
 use native.Mathlib.Nat.{not-suc-le-zero, le-of-suc-le-suc}
 use native.Mathlib.Decide.{ℕ-discrete}
 use native.Mathlib.Omega.{arith}
@@ -56,6 +56,11 @@ level-pos (suc v) h = refl
 one-pos : (v : ℕ) → 0 < v → one v ≡ 1
 one-pos zero h = absurd (not-suc-le-zero h)
 one-pos (suc v) h = refl
+
+-- a level is one more than the number before the ring's, where 65535 is before 0
+pub level-wraps : (v x : ℕ) → x < 65536 → (x + 1) % 65536 ≡ v → x + 1 ≡ level v
+level-wraps zero x l e = omega (arith, e)
+level-wraps (suc v) x l e = omega (arith, e)
 
 pub level-zero : (v : ℕ) → v ≡ 0 → level v ≡ 65536
 level-zero v e = ap level e

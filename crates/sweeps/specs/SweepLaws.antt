@@ -2,11 +2,12 @@
 use mathlib.Core.Path.{_≡_, refl, sym, ap, subst, _∙_}
 use mathlib.Core.List.{List}
 use mathlib.Core.Bool.{Bool, true, false, true≢false, false≢true}
-use mathlib.Core.Logic.{inl, inr, ⊎-elim}
+use mathlib.Core.Logic.{_⊎_, inl, inr, ⊎-elim}
 use Prim.Native.Nat.{ℕ, _+_, _-_, _*_, _/_, _%_, _≤_, _<_}
 use native.Mathlib.Decide.{ℕ-discrete, decLt}
 use native.Mathlib.Omega.{arith}
 use lib.Arith.{digits-lt}
+use lib.Dec.{ltb}
 use lib.ListN.{length, getD, set, length-set}
 use Rattle.rules.specs.Images.{Plane}
 use Rattle.rules.specs.Planning.{grown, touch}
@@ -130,10 +131,15 @@ clean-join a b d l f g j x y = elim (decLt j b) [ yes p ↦ f j x p | no p ↦ g
 pub rows-clean : (w h : ℕ) → Sizes w h → (l : List ℕ) → ((j : ℕ) → 33 * 320 ≤ j → j < (h + 33) * 320 → wordBit l j ≡ false) → (p : ℕ) → p < h * w → seen w l p ≡ false
 rows-clean w h z l e p lp = let (a, b) = pixel-row w h z p lp in seen-is w h z l p ∙ e (spot (p / w) (p % w)) (omega arith) (omega (arith, z .w-max))
 
--- a pair with no mark left has its rings
-pub grows-rest : (w h : ℕ) (free seed known : Plane) (ring marks got cand : List ℕ) → Grows w h free seed known ring marks got cand → ((p : ℕ) → p < h * w → seen w marks p ≡ false) →
-    ring ≡ grown (h * w) (touch w) free seed (h * w)
-grows-rest w h free seed known ring marks got cand G q = at-rest w h free seed known (G .frame) ring (seen w marks) (G .sweeping) q
+-- where no mark is left, every pixel has its ring, and got has those with one
+pub settled : {w h : ℕ} {ring' ring marks' marks got' got cand : List ℕ} → Onward w h ring' ring marks' marks got' got cand → ((p : ℕ) → p < h * w → seen w marks' p ≡ false)
+    → ((j : ℕ) → wordBit got' j ≡ true → (wordBit got j ≡ true) ⊎ (wordBit cand j ≡ true))
+    × ((free seed known : Plane) → Grows w h free seed known ring marks got cand
+    → (ring' ≡ grown (h * w) (touch w) free seed (h * w)) × ((p : ℕ) → p < h * w → seen w got' p ≡ ltb 0 (getD ring' p 0)))
+settled {w = w} {h = h} {ring' = ring'} {marks' = marks'} O none = (
+  O .adds,
+  λ f s n G. let E = O .grows f s n G in (at-rest w h f s n (E .frame) ring' (seen w marks') (E .sweeping) none, E .gots),
+)
 
 -- what a visit leaves ---------------------------------------------------------------------------------------------------
 

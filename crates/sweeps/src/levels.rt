@@ -11,11 +11,11 @@ fn wide(v: u16) -> u32
     v as u32
 }
 
-// A ring's number, and 65536 for none.
+// A ring's number, and 65536 for none: one less than 0 is the largest number, so that nothing is asked.
 fn level_of(v: u16) -> u32
     ensures { λ r. ⌜ (r ≡ level v) × (r ≤ 65536) ⌝ }
 {
-    if v == 0 { 65536 } else { wide(v) }
+    wide(std::num::wrapping_sub_u16(v, 1)) + 1
 }
 
 pub fn level_at(plane: &[u16], q: usize) -> u32

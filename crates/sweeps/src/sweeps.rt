@@ -111,7 +111,8 @@ fn sweep(
     changed
 }
 
-// Sweeps until no ring falls any more: then every pixel has its ring, and got has those with one.
+// Sweeps until no ring falls any more: then every pixel has its ring, and got has those with one. The first sweep stands by itself, because a
+// function that is called once is compiled into its caller, and in a large one the loops of a sweep find no registers.
 pub fn settle(
     ring: &mut [u16],
     marks: &mut [u64],
@@ -126,5 +127,8 @@ pub fn settle(
     ensures { λ _. ⌜ ((free seed known : ℕ → Bool) → Grows w h free seed known (now (ring .entry)) (now (marks .entry)) (now (got .entry)) (now (cand .entry))
         → (now (ring .exit) ≡ grown (h * w) (touch w) free seed (h * w)) × ((p : ℕ) → p < h * w → seen w (now (got .exit)) p ≡ ltb 0 (getD (now (ring .exit)) p 0))) ⌝ }
 {
+    if !sweep(ring, marks, got, cand, w, h) {
+        return;
+    }
     while sweep(ring, marks, got, cand, w, h) {}
 }

@@ -1,9 +1,9 @@
 -- Laws of lists of bytes and of words: their bits, what each store of a loop adds, what the whole loop leaves; words read from bytes.
-use mathlib.Core.Path.{_≡_, refl, sym, ap, ap₂, _∙_}
+use mathlib.Core.Path.{_≡_, refl, sym, ap, ap₂, subst, _∙_}
 use mathlib.Core.Bool.{Bool, false}
 use mathlib.Core.List.{List}
 use Prim.Native.Nat.{ℕ, suc, _+_, _-_, _*_, _/_, _%_, _^_, _<_, _≤_}
-use native.Mathlib.Nat.{div-add-mod', mod-lt, le-div-iff-mul-le, div-lt-iff-lt-mul, mul-one, add-mul, mul-assoc}
+use native.Mathlib.Nat.{div-add-mod', mod-lt, le-div-iff-mul-le, div-lt-iff-lt-mul, add-zero, mul-one, add-mul, mul-assoc}
 use native.Mathlib.Omega.{arith}
 use native.Mathlib.Decide.{decLt, ℕ-discrete}
 use borrow.Author.Tests.{lt-ltb, le-ltb}
@@ -80,42 +80,10 @@ filling-all w a b g out was pw F = record {
 pub digits-same : (n x a b : ℕ) (f g : ℕ → Bool) → ((k : ℕ) → k < n → f (a + k) ≡ g (b + k)) → Digits n x a f → Digits n x b g
 digits-same n x a b f g all X = record { small = X .small; bits = λ e k z. X .bits e k z ∙ all k (omega arith) }
 
--- two numbers in one word
-pub joined : (n m x y a : ℕ) (f : ℕ → Bool) → n + m ≤ 64 → Digits n x a f → Digits m y (a + n) f → Digits (n + m) (bitOr (x * 2 ^ m % 2 ^ 64) y) a f
-joined n m x y a f l X Y = rw (shl-exact {a = x} n m 64 (X .small) l, or-shifted x m y (Y .small)) (digits-join n m x y a f X Y)
-
--- one byte more
-pub more-byte : (i v b a : ℕ) (f : ℕ → Bool) → i < 8 → Digits (i * 8) v a f → Digits 8 b (a + i * 8) f → Digits ((i + 1) * 8) (bitOr (v * 2 ^ 8 % 2 ^ 64) b) a f
-more-byte i v b a f l W B =
-    let e : (i + 1) * 8 ≡ i * 8 + 8 = omega arith in
-    rw e (joined (i * 8) 8 v b a f (omega arith) W B)
-
--- or eight bits 0
-pub more-none : (i v a : ℕ) (f : ℕ → Bool) → i < 8 → Digits (i * 8) v a f → ((k : ℕ) → k < 8 → f (a + i * 8 + k) ≡ false) → Digits ((i + 1) * 8) (v * 2 ^ 8 % 2 ^ 64) a f
-more-none i v a f l W none =
-    let e : (i + 1) * 8 ≡ i * 8 + 8 = omega arith in
-    let h : i * 8 + 8 ≤ 64 = omega arith in
-    let z : v * 2 ^ 8 ≡ v * 2 ^ 8 + 0 = omega arith in
-    rw (e, shl-exact {a = v} (i * 8) 8 64 (W .small) h, z) (digits-join (i * 8) 8 v 0 a f W (digits-zero 8 (a + i * 8) f none))
-
 pub byte-here : (s : List ℕ) (at i b : ℕ) → (b ≡ getD s (at + i) 0) × (b < 256) → Digits 8 b (at * 8 + i * 8) (bitOf s)
 byte-here s at i b (e, h) =
     let z : at * 8 + i * 8 ≡ (at + i) * 8 = omega arith in
     rw (z, e) (digits-same 8 (getD s (at + i) 0) ((at + i) * 8) ((at + i) * 8) (flat 8 s) (bitOf s) (λ k l. flat-bytes s ((at + i) * 8 + k)) (digits-here 8 s (at + i) (rw (← e) h)))
-
-pub part-here : (s : List ℕ) (at n i b : ℕ) → i < n → (b ≡ getD s (at + i) 0) × (b < 256) → Digits 8 b (0 + i * 8) (rowPart s at n)
-unfolding rowPart
-part-here s at n i b l h = record {
-  small = h .1;
-  bits = λ e k z.
-      let lt : 0 + i * 8 + k < n * 8 = omega arith in
-      let q : at * 8 + (0 + i * 8 + k) ≡ at * 8 + i * 8 + k = omega arith in
-      rw (lt-ltb (0 + i * 8 + k) (n * 8) lt, q) (byte-here s at i b h .bits e k z);
-}
-
-pub part-none : (s : List ℕ) (at n i : ℕ) → n ≤ i → (k : ℕ) → k < 8 → rowPart s at n (0 + i * 8 + k) ≡ false
-unfolding rowPart
-part-none s at n i l k lk = let h : n * 8 ≤ 0 + i * 8 + k = omega arith in rw (le-ltb (0 + i * 8 + k) (n * 8) h)
 
 -- the first n digits of a word, with m zeros behind them
 pub record Leading (n m x a : ℕ) (f : ℕ → Bool) : Type 0 where
@@ -150,6 +118,20 @@ leading-more s at k v b l h X =
 
 pub leading-all : (x a : ℕ) (f : ℕ → Bool) → Leading 64 0 x a f → Digits 64 x a f
 leading-all x a f X = let e : x ≡ X .top = X .is ∙ mul-one (X .top) in rw e (X .digits)
+
+-- a row's first n bytes at the start of a word, and none behind
+pub leading-part : (s : List ℕ) (at n x : ℕ) → n ≤ 8 → Leading (n * 8) (64 - n * 8) x (at * 8) (bitOf s) → Digits 64 x 0 (rowPart s at n)
+unfolding rowPart
+leading-part s at n x l X =
+    let f : ℕ → Bool = rowPart s at n in
+    let e : n * 8 + (64 - n * 8) ≡ 64 = omega arith in
+    let z : x ≡ X .top * 2 ^ (64 - n * 8) + 0 = X .is ∙ sym (add-zero _) in
+    let here : Digits (n * 8) (X .top) 0 f = digits-same _ _ (at * 8) 0 (bitOf s) f (λ k lk. at-first k (omega arith)) (X .digits) in
+    let none : Digits (64 - n * 8) 0 (0 + n * 8) f = digits-zero _ _ f (λ k lk. rw (le-ltb (0 + n * 8 + k) (n * 8) (omega arith))) in
+    rw z (subst (λ (m : ℕ). Digits m (X .top * 2 ^ (64 - n * 8) + 0) 0 f) e (digits-join _ _ _ _ 0 f here none))
+  where
+    at-first : (k : ℕ) → k < n * 8 → bitOf s (at * 8 + k) ≡ rowPart s at n (0 + k)
+    at-first k lk = let z : at * 8 + k ≡ at * 8 + (0 + k) = omega arith in rw (lt-ltb (0 + k) (n * 8) (omega arith), z)
 
 -- and back
 pub byte-of : (x at i : ℕ) → i < 8 → Digits 8 (x / 2 ^ (56 - 8 * i) % 256) ((at + i) * 8) (λ j. bitOfWord x (j - at * 8))

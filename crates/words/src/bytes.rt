@@ -33,11 +33,7 @@ pub fn part(s: &[u8], at: usize, n: usize) -> u64
     let mut v: u64 = 0;
     let mut k = 0;
     while k < n {
-        v = (v << 8) | long(s[at + k]);
-        k += 1;
-    }
-    while k < 8 {
-        v = v << 8;
+        v = v | (long(s[at + k]) << (56 - 8 * k));
         k += 1;
     }
     v

@@ -28,99 +28,60 @@ loop-holds c = (omega arith, omega arith, omega arith, λ y a b. absurd (omega a
 
 add-mid : tie.Need-add-mid Inv-loop μ-loop
 add-mid c =
-    let b2 = c .before .before in let b8 = b2 .before .before .before .before .before .before in let args = b8 .args in
-    omega (
-      arith,
-      pair-fits (args .w) (args .h) (args .n) (c .before .loop .i) (b2 .row-bytes .result) (c .before .loop .at) (c .before .loop .x) (args .part .now) (args .sup .now)
-          (args .rings .now) (b8 .pre .0) (b2 .row-bytes .ensures .0) (b2 .row-bytes .ensures .1) (c .before .loop .inv .1) (c .before .loop .inv .2) (omega (arith, c .loop-test .taken)),
-    )
+    let b2 = c .before .before in let b8 = b2 .before .before .before .before .before .before in
+    omega (arith, pair-fits (c .before .loop .i) (b8 .pre .0) (b2 .row-bytes .ensures) (c .before .loop .inv .1) (c .before .loop .inv .2) (omega (arith, c .loop-test .taken)))
 
 add-end : tie.Need-add-end Inv-loop μ-loop
 add-end c =
-    let b2 = c .before .before in let b8 = b2 .before .before .before .before .before .before in let args = b8 .args in
-    omega (
-      arith,
-      pair-fits (args .w) (args .h) (args .n) (c .before .loop .i) (b2 .row-bytes .result) (c .before .loop .at) (c .before .loop .x) (args .part .now) (args .sup .now)
-          (args .rings .now) (b8 .pre .0) (b2 .row-bytes .ensures .0) (b2 .row-bytes .ensures .1) (c .before .loop .inv .1) (c .before .loop .inv .2) (omega (arith, c .loop-test .taken)),
-    )
+    let b2 = c .before .before in let b8 = b2 .before .before .before .before .before .before in
+    omega (arith, pair-fits (c .before .loop .i) (b8 .pre .0) (b2 .row-bytes .ensures) (c .before .loop .inv .1) (c .before .loop .inv .2) (omega (arith, c .loop-test .taken)))
 
 add-next : tie.Need-add-next Inv-loop μ-loop
 add-next c =
-    let b2 = c .before .before in let b8 = b2 .before .before .before .before .before .before in let args = b8 .args in
-    omega (
-      arith,
-      pair-fits (args .w) (args .h) (args .n) (c .before .loop .i) (b2 .row-bytes .result) (c .before .loop .at) (c .before .loop .x) (args .part .now) (args .sup .now)
-          (args .rings .now) (b8 .pre .0) (b2 .row-bytes .ensures .0) (b2 .row-bytes .ensures .1) (c .before .loop .inv .1) (c .before .loop .inv .2) (omega (arith, c .loop-test .taken)),
-    )
+    let b2 = c .before .before in let b8 = b2 .before .before .before .before .before .before in
+    omega (arith, pair-fits (c .before .loop .i) (b8 .pre .0) (b2 .row-bytes .ensures) (c .before .loop .inv .1) (c .before .loop .inv .2) (omega (arith, c .loop-test .taken)))
 
 part-in-pair-end : tie.Need-part-in-pair-end Inv-loop μ-loop
 part-in-pair-end c =
-    let b2 = c .before .before in let b8 = b2 .before .before .before .before .before .before in let args = b8 .args in
-    omega (
-      arith,
-      pair-bytes (args .w) (args .h) (args .n) (c .before .loop .i) (b2 .row-bytes .result) (c .before .loop .at) (c .before .loop .x) (args .part .now) (args .sup .now)
-          (args .rings .now) (b8 .pre .0) (b2 .row-bytes .ensures .0) (b2 .row-bytes .ensures .1) (c .before .loop .inv .1) (c .before .loop .inv .2) (omega (arith, c .loop-test .taken)),
-    )
+    let b2 = c .before .before in let b8 = b2 .before .before .before .before .before .before in
+    omega (arith, pair-bytes (c .before .loop .i) (b8 .pre .0) (b2 .row-bytes .ensures) (c .before .loop .inv .1) (c .before .loop .inv .2) (omega (arith, c .loop-test .taken)))
 
 part-in-pair-end-2 : tie.Need-part-in-pair-end-2 Inv-loop μ-loop
 part-in-pair-end-2 c =
-    let b2 = c .before .before in let b3 = b2 .before in let b9 = b3 .before .before .before .before .before .before in let args = b9 .args in
-    omega (
-      arith,
-      pair-bytes (args .w) (args .h) (args .n) (b2 .loop .i) (b3 .row-bytes .result) (b2 .loop .at) (b2 .loop .x) (args .part .now) (args .sup .now) (args .rings .now) (b9 .pre .0)
-          (b3 .row-bytes .ensures .0) (b3 .row-bytes .ensures .1) (b2 .loop .inv .1) (b2 .loop .inv .2) (omega (arith, c .before .loop-test .taken)),
-    )
+    let b2 = c .before .before in let b3 = b2 .before in let b9 = b3 .before .before .before .before .before .before in
+    omega (arith, pair-bytes (b2 .loop .i) (b9 .pre .0) (b3 .row-bytes .ensures) (b2 .loop .inv .1) (b2 .loop .inv .2) (omega (arith, c .before .loop-test .taken)))
 
 part-in-pair-end-3 : tie.Need-part-in-pair-end-3 Inv-loop μ-loop
 part-in-pair-end-3 c =
-    let b3 = c .before .before .before in let b4 = b3 .before in let b10 = b4 .before .before .before .before .before .before in let args = b10 .args in
-    omega (
-      arith,
-      pair-bytes (args .w) (args .h) (args .n) (b3 .loop .i) (b4 .row-bytes .result) (b3 .loop .at) (b3 .loop .x) (args .part .now) (args .sup .now) (args .rings .now) (b10 .pre .0)
-          (b4 .row-bytes .ensures .0) (b4 .row-bytes .ensures .1) (b3 .loop .inv .1) (b3 .loop .inv .2) (omega (arith, c .before .before .loop-test .taken)),
-    )
+    let b3 = c .before .before .before in let b4 = b3 .before in let b10 = b4 .before .before .before .before .before .before in
+    omega (arith, pair-bytes (b3 .loop .i) (b10 .pre .0) (b4 .row-bytes .ensures) (b3 .loop .inv .1) (b3 .loop .inv .2) (omega (arith, c .before .before .loop-test .taken)))
 
 part-in-pair-end-4 : tie.Need-part-in-pair-end-4 Inv-loop μ-loop
 part-in-pair-end-4 c =
-    let b3 = c .before .before .before in let b4 = b3 .before in let b5 = b4 .before in let b11 = b5 .before .before .before .before .before .before in let args = b11 .args in
-    omega (
-      arith,
-      pair-bytes (args .w) (args .h) (args .n) (b4 .loop .i) (b5 .row-bytes .result) (b4 .loop .at) (b4 .loop .x) (args .part .now) (args .sup .now) (args .rings .now) (b11 .pre .0)
-          (b5 .row-bytes .ensures .0) (b5 .row-bytes .ensures .1) (b4 .loop .inv .1) (b4 .loop .inv .2) (omega (arith, b3 .loop-test .taken)),
-    )
+    let b3 = c .before .before .before in let b4 = b3 .before in let b5 = b4 .before in let b11 = b5 .before .before .before .before .before .before in
+    omega (arith, pair-bytes (b4 .loop .i) (b11 .pre .0) (b5 .row-bytes .ensures) (b4 .loop .inv .1) (b4 .loop .inv .2) (omega (arith, b3 .loop-test .taken)))
 
 mul-in-pair : tie.Need-mul-in-pair Inv-loop μ-loop
 mul-in-pair c =
     let b4 = c .before .before .before .before in let b5 = b4 .before in let b6 = b5 .before in let b12 = b6 .before .before .before .before .before .before in
-    let args = b12 .args in
-    omega (
-      arith,
-      pair-fits (args .w) (args .h) (args .n) (b5 .loop .i) (b6 .row-bytes .result) (b5 .loop .at) (b5 .loop .x) (args .part .now) (args .sup .now) (args .rings .now) (b12 .pre .0)
-          (b6 .row-bytes .ensures .0) (b6 .row-bytes .ensures .1) (b5 .loop .inv .1) (b5 .loop .inv .2) (omega (arith, b4 .loop-test .taken)),
-    )
+    omega (arith, pair-fits (b5 .loop .i) (b12 .pre .0) (b6 .row-bytes .ensures) (b5 .loop .inv .1) (b5 .loop .inv .2) (omega (arith, b4 .loop-test .taken)))
 
 part-in-pair-end-5 : tie.Need-part-in-pair-end-5 Inv-loop μ-loop
 part-in-pair-end-5 c =
     let b4 = c .before .before .before .before in let b5 = b4 .before in let b6 = b5 .before in let b12 = b6 .before .before .before .before .before .before in
-    let args = b12 .args in
-    omega (
-      arith,
-      pair-rings (args .w) (args .h) (args .n) (b5 .loop .i) (b6 .row-bytes .result) (b5 .loop .at) (b5 .loop .x) (args .part .now) (args .sup .now) (args .rings .now) (b12 .pre .0)
-          (b6 .row-bytes .ensures .0) (b6 .row-bytes .ensures .1) (b5 .loop .inv .1) (b5 .loop .inv .2) (omega (arith, b4 .loop-test .taken)),
-    )
+    omega (arith, pair-rings (b5 .loop .i) (b12 .pre .0) (b6 .row-bytes .ensures) (b5 .loop .inv .1) (b5 .loop .inv .2) (omega (arith, b4 .loop-test .taken)))
 
 in-pair-requires : tie.Need-in-pair-requires Inv-loop μ-loop
 in-pair-requires c κs =
     let b5 = c .before .before .before .before .before in let b6 = b5 .before in let b7 = b6 .before in let b13 = b7 .before .before .before .before .before .before in
-    let args = b13 .args in let pre = b13 .pre in (
+    let pre = b13 .pre in (
       (
         (pre .0 .sized, pre .1 .1),
-        pair-clean (args .w) (args .h) (args .n) (b6 .loop .i) (b7 .row-bytes .result) (b6 .loop .at) (b6 .loop .x) (args .part .now) (args .sup .now) (args .rings .now)
-            (pre .0) (b7 .row-bytes .ensures .0) (b7 .row-bytes .ensures .1) (b6 .loop .inv .1) (b6 .loop .inv .2) (omega (arith, b5 .loop-test .taken)),
+        pair-clean (b6 .loop .i) (pre .0) (b7 .row-bytes .ensures) (b6 .loop .inv .1) (b6 .loop .inv .2) (omega (arith, b5 .loop-test .taken)),
       ),
       (
-        pair-planes (args .w) (args .h) (args .n) (b6 .loop .i) (b7 .row-bytes .result) (b6 .loop .at) (b6 .loop .x) (args .part .now) (args .sup .now) (args .rings .now) (pre .0)
-            (b7 .row-bytes .ensures .0) (b6 .loop .inv .1) (b6 .loop .inv .2) (omega (arith, b5 .loop-test .taken)),
+        pair-planes (b6 .loop .i) (pre .0)
+            (b7 .row-bytes .ensures) (b6 .loop .inv .1) (b6 .loop .inv .2) (omega (arith, b5 .loop-test .taken)),
         pre .1 .0,
       ),
     )
@@ -128,12 +89,11 @@ in-pair-requires c κs =
 add-result : tie.Need-add-result Inv-loop μ-loop
 add-result c =
     let b7 = c .before .before .before .before .before .before .before in let b8 = b7 .before in let b9 = b8 .before in
-    let b15 = b9 .before .before .before .before .before .before in let args = b15 .args in
+    let b15 = b9 .before .before .before .before .before .before in
     omega (
       arith,
       c .if1 .taken,
-      pair-fits (args .w) (args .h) (args .n) (b8 .loop .i) (b9 .row-bytes .result) (b8 .loop .at) (b8 .loop .x) (args .part .now) (args .sup .now) (args .rings .now)
-          (b15 .pre .0) (b9 .row-bytes .ensures .0) (b9 .row-bytes .ensures .1) (b8 .loop .inv .1) (b8 .loop .inv .2) (omega (arith, b7 .loop-test .taken)),
+      pair-fits (b8 .loop .i) (b15 .pre .0) (b9 .row-bytes .ensures) (b8 .loop .inv .1) (b8 .loop .inv .2) (omega (arith, b7 .loop-test .taken)),
     )
 
 returns : tie.Need-returns Inv-loop μ-loop
@@ -141,8 +101,8 @@ returns c =
     let b7 = c .before .before .before .before .before .before .before in let b8 = b7 .before in let b9 = b8 .before in
     let b15 = b9 .before .before .before .before .before .before in let args = b15 .args in
     stretch-hit ((args .n - 1) * (args .h * args .w)) _ _ (b8 .loop .x) (args .h * args .w) (c .before .in-pair .result) (b8 .loop .inv .3)
-    (amiss-pair (args .w) (args .h) (args .n) (b8 .loop .i) (b9 .row-bytes .result) (b8 .loop .at) (b8 .loop .x) (args .part .now) (args .sup .now) (args .rings .now) (b15 .pre .0)
-    (b9 .row-bytes .ensures .0) (b8 .loop .inv .1) (b8 .loop .inv .2) (omega (arith, b7 .loop-test .taken)) (args .ringed) (args .q .0)) (c .before .in-pair .ensures)
+    (amiss-pair (b8 .loop .i) (b15 .pre .0)
+    (b9 .row-bytes .ensures) (b8 .loop .inv .1) (b8 .loop .inv .2) (omega (arith, b7 .loop-test .taken)) (args .ringed) (args .q .0)) (c .before .in-pair .ensures)
     (stretch-in (b8 .loop .i) (args .n - 1) (args .h * args .w) (b8 .loop .x) (b8 .loop .inv .2) (omega (arith, b7 .loop-test .taken))) (c .if1 .taken)
 
 add-i : tie.Need-add-i Inv-loop μ-loop
@@ -159,8 +119,8 @@ loop-again c =
       stretch-next _ _ _ (b8 .loop .inv .2),
       stretch-more ((args .n - 1) * (args .h * args .w)) _ _ (b8 .loop .x)
           (args .h * args .w) (c .before .in-pair .result) (b8 .loop .inv .3)
-          (amiss-pair (args .w) (args .h) (args .n) (b8 .loop .i) (b9 .row-bytes .result) (b8 .loop .at) (b8 .loop .x) (args .part .now) (args .sup .now) (args .rings .now) (b15 .pre .0)
-          (b9 .row-bytes .ensures .0) (b8 .loop .inv .1) (b8 .loop .inv .2) (omega (arith, b7 .loop-test .taken)) (args .ringed) (args .q .0)) (c .before .in-pair .ensures)
+          (amiss-pair (b8 .loop .i) (b15 .pre .0)
+          (b9 .row-bytes .ensures) (b8 .loop .inv .1) (b8 .loop .inv .2) (omega (arith, b7 .loop-test .taken)) (args .ringed) (args .q .0)) (c .before .in-pair .ensures)
           (b8 .loop .x + args .h * args .w) (c .if1 .left) (λ y a b. a),
     )
 
