@@ -44,21 +44,11 @@ pub fn read_short(s: &[u8], at: usize, n: usize) -> Row
     requires { ⌜ (at + n ≤ length (now s)) × (n ≤ 32) ⌝ }
     ensures { λ r. ⌜ ((c : ℕ) → column r c ≡ rowPart (now (s .entry)) at n c) ⌝ }
 {
-    if n <= 8 {
-        let a = word_of(s, at, n, 0);
-        return Row {
-            a,
-            b: 0,
-            c: 0,
-            d: 0,
-        };
-    }
-    let a = crate::bytes::word(s, at);
+    let a = word_of(s, at, n, 0);
+    let b = word_of(s, at, n, 1);
     if n <= 16 {
-        let b = word_of(s, at, n, 1);
         return Row { a, b, c: 0, d: 0 };
     }
-    let b = crate::bytes::word(s, at + 8);
     let c = word_of(s, at, n, 2);
     let d = word_of(s, at, n, 3);
     Row { a, b, c, d }
