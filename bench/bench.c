@@ -1,12 +1,13 @@
 /* The benchmark's driver: runs one call on one input, a number of times.
  *
- * usage: bench WHAT INPUT W H N R TIMES
- *        bench clock INPUT W H N R ROUNDS
+ * usage: bench WHAT INPUT W H N T TIMES
+ *        bench clock INPUT W H N T ROUNDS
  *
  * WHAT is plan or check (the library), peer-plan or peer-check (the peer), tuned-plan or tuned-check (the peer that is tuned further),
  * floor (what no planner can do without: zeroing the ring planes and copying the part), or compare (all three must agree on every byte).
  * A check judges what was planned before, by the tuned peer, which is not part of the TIMES. INPUT is empty, solid, sphere, lattice, noise,
- * spiral, meander, wide or maze; R is the reach in pixels. With TIMES 0 only the input is made, so what a call costs by any measure is the difference.
+ * spiral, meander, wide or maze; T is the overhang in pixels, as 10 or 32.99. With TIMES 0 only the input is made, so what a call costs by any
+ * measure is the difference.
  *
  * clock lets floor, planners and checkers take turns, ROUNDS times, and prints a line for each: WHAT, then the milliseconds of each round
  * by the clock that counts the time that this thread had a processor. A round before these is not counted.
@@ -122,6 +123,19 @@ static size_t number(const char *word, size_t low, size_t high)
     return value;
 }
 
+/* Pixels with up to two decimals, in micrometres. */
+static uint32_t overhang(const char *word)
+{
+    char whole[16];
+    const char *point = strchr(word, '.');
+    size_t length = point == NULL ? strlen(word) : (size_t)(point - word), part = 0;
+    if (length >= sizeof whole) die("a number is out of range");
+    memcpy(whole, word, length);
+    whole[length] = 0;
+    if (point != NULL) part = number(point + 1, 0, 99) * (strlen(point + 1) == 1 ? 10 : 1);
+    return (uint32_t)(PITCH * number(whole, 0, 32) + part * PITCH / 100);
+}
+
 static struct job make_job(char **words)
 {
     struct job j;
@@ -130,7 +144,7 @@ static struct job make_job(char **words)
     j.s.w = number(words[1], 1, 256);
     j.s.h = number(words[2], 1, 256);
     j.s.n = number(words[3], 1, 512);
-    j.overhang = (uint32_t)(PITCH * number(words[4], 0, 32));
+    j.overhang = overhang(words[4]);
     j.part = room(stack_bytes(j.s), 1);
     j.support = room(stack_bytes(j.s), 1);
     j.rings = room(ring_count(j.s), sizeof *j.rings);

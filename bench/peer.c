@@ -6,8 +6,8 @@
  *   is widened step by step, from the edge of the disc to its middle, and joined to the rows that it reaches.
  * - Ring 1 is given by rows. Further rings come from a queue of pixels over a grid of marks, one byte for each near shadow pixel that has
  *   no ring yet; the grid has a border, so a search has no edges to mind.
- * - The checker passes over rows without rings. A ring beside the part is near wherever R is at least 2, so near pixels are found only
- *   where some ring lies further away.
+ * - The checker passes over rows without rings. A ring beside the part is near wherever the bound is at least 2, so near pixels are found
+ *   only where some ring lies further away.
  */
 #include "peers.h"
 
@@ -85,7 +85,8 @@ INLINE row spread(row a)
 
 struct stack {
     size_t w, h, n, bytes, plane;  /* bytes of a row and of a plane */
-    size_t reach, half[REACH + 1]; /* the disc runs half[d] columns to each side in a row d rows away */
+    size_t reach, bound;           /* the disc's rows to each side, and its squared radius */
+    size_t half[REACH + 1];        /* the disc runs half[d] columns to each side in a row d rows away */
     row wide;                      /* the W columns */
 };
 
@@ -103,9 +104,10 @@ static unsigned settle(struct stack *s, uint64_t w, uint64_t h, uint64_t n, uint
     if (w < 1 || w > MOST || h < 1 || h > MOST || n < 1 || n > 512) return 1;
     if (pitch < 10 || pitch > 1000 || overhang > 10000) return 2;
     if (overhang / pitch > REACH) return 3;
-    *s = (struct stack){.w = w, .h = h, .n = n, .bytes = (w + 7) / 8, .plane = h * ((w + 7) / 8), .reach = overhang / pitch};
+    *s = (struct stack){.w = w, .h = h, .n = n, .bytes = (w + 7) / 8, .plane = h * ((w + 7) / 8), .reach = overhang / pitch,
+                        .bound = overhang * overhang / (pitch * pitch)};
     for (size_t d = 0; d <= s->reach; d++)
-        while ((s->half[d] + 1) * (s->half[d] + 1) + d * d <= s->reach * s->reach) s->half[d]++;
+        while ((s->half[d] + 1) * (s->half[d] + 1) + d * d <= s->bound) s->half[d]++;
     for (size_t x = 0; x < w; x++) s->wide.v[x / 64] |= bit_of(x);
     return 0;
 }
@@ -334,10 +336,10 @@ INLINE int open_judged(struct pair *p, const struct stack *s, const uint8_t *up,
     return some;
 }
 
-/* Finds the near pixels as far as rings need them. A ring beside the lower part is near where R is at least 2. */
+/* Finds the near pixels as far as rings need them. A ring beside the lower part is near where the bound is at least 2. */
 INLINE void find_near_rings(struct pair *p, const struct stack *s)
 {
-    int far = s->reach < 2;
+    int far = s->bound < 2;
     for (size_t y = 0; y < s->h && !far; y++)
         far = row_any(p->got[y]) && row_any(row_but(p->got[y], around(p->lower, y, s->h)));
     if (far)

@@ -7,7 +7,7 @@
  *   shadow are worked on.
  * - Rings 1 to 3 are given by whole rows. Further ones by breadth-first search with a queue of words: pixels of a word that get the same
  *   ring together spread together.
- * - A pixel of ring k has a seed within k rows and k columns, so it is near while 2 k k is at most R squared. Beyond that near pixels
+ * - A pixel of ring k has a seed within k rows and k columns, so it is near while 2 k k is at most the bound. Beyond that near pixels
  *   are found row by row, by widening, for the rows that still have shadow pixels without a ring.
  * - The checker tests that every ring lies in the shadow and has one to lean on; small rings are then near for the same reason. Only
  *   where a test fails it looks for the first place, pixel by pixel.
@@ -110,7 +110,8 @@ INLINE row widened(row a, int by)
 
 struct stack {
     size_t w, h, n, bytes, plane; /* bytes of a row and of a plane */
-    int reach, half[REACH + 1];   /* the disc runs half[d] columns to each side in a row d rows away */
+    int reach, bound;             /* the disc's rows to each side, and its squared radius */
+    int half[REACH + 1];          /* the disc runs half[d] columns to each side in a row d rows away */
     unsigned surely;              /* rings up to this one are near by themselves */
 };
 
@@ -127,10 +128,11 @@ static unsigned settle(struct stack *s, uint64_t w, uint64_t h, uint64_t n, uint
     if (w < 1 || w > MOST || h < 1 || h > MOST || n < 1 || n > 512) return 1;
     if (pitch < 10 || pitch > 1000 || overhang > 10000) return 2;
     if (overhang / pitch > REACH) return 3;
-    *s = (struct stack){.w = w, .h = h, .n = n, .bytes = (w + 7) / 8, .plane = h * ((w + 7) / 8), .reach = (int)(overhang / pitch)};
+    *s = (struct stack){.w = w, .h = h, .n = n, .bytes = (w + 7) / 8, .plane = h * ((w + 7) / 8), .reach = (int)(overhang / pitch),
+                        .bound = (int)(overhang * overhang / (pitch * pitch))};
     for (int d = 0; d <= s->reach; d++)
-        while ((s->half[d] + 1) * (s->half[d] + 1) + d * d <= s->reach * s->reach) s->half[d]++;
-    while (2 * (s->surely + 1) * (s->surely + 1) <= (unsigned)(s->reach * s->reach)) s->surely++;
+        while ((s->half[d] + 1) * (s->half[d] + 1) + d * d <= s->bound) s->half[d]++;
+    while (2 * (s->surely + 1) * (s->surely + 1) <= (unsigned)s->bound) s->surely++;
     return 0;
 }
 
@@ -231,7 +233,7 @@ static row near_row(struct pair *p, size_t y)
         a = widened(a, p->s->half[d - 1] - p->s->half[d]);
         a = row_or(a, row_or(at[-d], at[d]));
     }
-    return a;
+    return widened(a, p->s->half[p->s->reach]);
 }
 
 /* ---- Rings of a pair ---- */

@@ -15,7 +15,7 @@
 
 #include <stdint.h>
 
-#define KG_VERSION "0.1"
+#define KG_VERSION "0.2"
 
 #ifdef __cplusplus
 extern "C" {
@@ -36,11 +36,12 @@ static inline uint64_t kg_value(kg_answer a) { return a >> 16; }
 static inline uint64_t kg_stack_bytes(uint64_t w, uint64_t h, uint64_t n) { return n * h * ((w + 7) / 8); }
 static inline uint64_t kg_ring_count(uint64_t w, uint64_t h, uint64_t n) { return (n - 1) * w * h; }
 
-/* The reach of an overhang, in whole pixels: kg_value. Refusals 2, 3. */
+/* The reach of an overhang, in whole pixels, overhang / pitch rounded down: kg_value. Refusals 2, 3. */
 kg_answer kg_reach(uint32_t pitch, uint32_t overhang);
 
-/* Plans support and rings for a part. Support must have the part's length and rings (n - 1) * w * h numbers; what they held does not
- * matter, and all of both is written. Refusals 1 to 7. */
+/* Plans support and rings for a part. A pixel is near part where the squares of the differences in rows and in columns, added, are at most
+ * overhang * overhang / (pitch * pitch) rounded down, which can be more than the reach squared; kg_check uses the same rule. Support must
+ * have the part's length and rings (n - 1) * w * h numbers; what they held does not matter, and all of both is written. Refusals 1 to 7. */
 kg_answer kg_plan(uint64_t w, uint64_t h, uint64_t n, uint32_t pitch, uint32_t overhang,
                   const uint8_t *part, uint64_t part_len,
                   uint8_t *support, uint64_t support_len,

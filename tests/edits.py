@@ -2,33 +2,38 @@
 import concurrent.futures, os, shutil, sys
 
 def parse(path, keys):
-    """An edit: the lines with one of `keys`, and pairs of old: and new: texts of one line each. Lines with # say what is wrong in it."""
-    edit, pairs = {}, []
+    """An edit: the lines with one of `keys`, and pairs of old: and new: texts of one line each, each of the file: told last. Lines with # say
+    what is wrong in it."""
+    edit, pairs, file = {}, [], None
     for line in open(path, encoding='utf-8').read().split('\n'):
         if line.startswith('#') or not line.strip():
             continue
         key, _, value = line.partition(': ')
-        if key in keys:
+        if key == 'file':
+            file = value.strip()
+        elif key in keys:
             edit[key] = value.strip()
         elif key == 'old':
-            pairs.append([value, None])
+            pairs.append([file, value, None])
         elif key == 'new:' or key == 'new':
-            pairs[-1][1] = value
+            pairs[-1][2] = value
         else:
             raise SystemExit(f'{path}: {line!r} is no line of an edit')
     edit['pairs'] = pairs
     return edit
 
-def make(path, pairs):
-    """Makes the pairs in the file at `path`; answers what is wrong with them, or None."""
-    text = open(path, encoding='utf-8').read()
-    for old, new in pairs:
-        if text.count(old) != 1:
-            return f'the old text {old!r} stands {text.count(old)} times in {os.path.basename(path)}'
-    for old, new in sorted(pairs, key=lambda pair: -text.index(pair[0])):
-        at = text.index(old)
-        text = text[:at] + new + text[at + len(old):]
-    open(path, 'w', encoding='utf-8').write(text)
+def make(folder, pairs):
+    """Makes the pairs in the files below `folder`; answers what is wrong with them, or None."""
+    for file in sorted({file for file, _, _ in pairs}):
+        path, here = os.path.join(folder, file), [pair[1:] for pair in pairs if pair[0] == file]
+        text = open(path, encoding='utf-8').read()
+        for old, new in here:
+            if text.count(old) != 1:
+                return f'the old text {old!r} stands {text.count(old)} times in {file}'
+        for old, new in sorted(here, key=lambda pair: -text.index(pair[0])):
+            at = text.index(old)
+            text = text[:at] + new + text[at + len(old):]
+        open(path, 'w', encoding='utf-8').write(text)
 
 def at_once(work, items):
     """Each item with what `work` answers of it, as many at a time as there are processors, in order."""

@@ -1,6 +1,6 @@
 /* Makes the trial of a seed and a case number: a few of the largest size, then all very small stacks, then all sizes at the edges of
- * words, then random ones, good and spoilt in every way that has a refusal number. No expression throws the dice twice in an order that C
- * leaves open, so a case is the same on every machine.
+ * words, then whole discs, then random ones, good and spoilt in every way that has a refusal number. No expression throws the dice twice
+ * in an order that C leaves open, so a case is the same on every machine.
  */
 #include "make.h"
 
@@ -179,9 +179,11 @@ static void make_write(struct dice *d, struct trial *t)
 
 /* ---- All very small stacks ---- */
 
-/* The number-th plan of a stack with at most eight pixels in all, any reach from 0 to 3. */
+/* The number-th plan of a stack with at most eight pixels in all, any reach from 0 to 3; where there are corners, one of the overhangs has them
+ * near though its reach is 1. */
 static int small_plan(struct trial *t, uint64_t *number)
 {
+    static const uint32_t in_a_line[4] = {0, 100, 200, 300}, with_corners[4] = {0, 100, 150, 200};
     for (t->w = 1; t->w <= 8; t->w++)
         for (t->h = 1; t->w * t->h <= 8; t->h++)
             for (t->n = 1; t->w * t->h * t->n <= 8; t->n++) {
@@ -192,7 +194,7 @@ static int small_plan(struct trial *t, uint64_t *number)
                 }
                 t->call = PLAN;
                 t->pitch = 100;
-                t->overhang = (uint32_t)(100 * (*number % 4));
+                t->overhang = (t->w > 1 && t->h > 1 ? with_corners : in_a_line)[*number % 4];
                 buffer_make(t, PART_STACK, stack_bytes_of(t));
                 buffer_make(t, SUPPORT_STACK, stack_bytes_of(t));
                 buffer_make(t, RING_PLANES, ring_count_of(t));
@@ -275,6 +277,35 @@ static int edge_case(struct dice *d, struct trial *t, uint64_t *number)
     return 1;
 }
 
+/* ---- Whole discs ---- */
+
+/* The number-th plan of a full layer over one of its corners, one pixel larger than the reach, with overhangs of whole pixels and between them. */
+static int disc_case(struct dice *d, struct trial *t, uint64_t *number)
+{
+    static const unsigned reaches[] = {0, 1, 2, 3, 5, 10, 32}, between[] = {0, 42, 99};
+    enum { REACHES = sizeof reaches / sizeof *reaches, ALL = REACHES * (sizeof between / sizeof *between) };
+    uint64_t k = *number;
+    int bottom, right;
+    if (k >= ALL) {
+        *number -= ALL;
+        return 0;
+    }
+    bottom = chance(d, 2);
+    right = chance(d, 2);
+    t->call = PLAN;
+    t->w = reaches[k % REACHES] + 2;
+    t->h = t->w;
+    t->n = 2;
+    t->pitch = 100;
+    t->overhang = 100 * reaches[k % REACHES] + between[k / REACHES];
+    buffer_make(t, PART_STACK, stack_bytes_of(t));
+    for (uint64_t p = 0; p < t->w * t->h; p++) set_pixel(t->lent[PART_STACK].bytes, t->w, t->h, 1, p / t->w, p % t->w, 1);
+    set_pixel(t->lent[PART_STACK].bytes, t->w, t->h, 0, bottom ? t->h - 1 : 0, right ? t->w - 1 : 0, 1);
+    lend_scribbled(d, t, SUPPORT_STACK, stack_bytes_of(t));
+    lend_scribbled(d, t, RING_PLANES, ring_count_of(t));
+    return 1;
+}
+
 /* ---- A job of the largest size ---- */
 
 static void make_largest(struct dice *d, struct trial *t, uint64_t which)
@@ -341,6 +372,6 @@ void make_trial(struct trial *t, uint64_t seed, uint64_t number)
         return;
     }
     number -= LARGEST_CASES;
-    if (small_plan(t, &number) || small_check(t, &number) || edge_case(&d, t, &number)) return;
+    if (small_plan(t, &number) || small_check(t, &number) || edge_case(&d, t, &number) || disc_case(&d, t, &number)) return;
     make_random(&d, t);
 }

@@ -158,11 +158,14 @@ static void support_for_ring(struct dice *d, struct trial *t)
     t->marks |= FEWER_RINGS;
 }
 
-/* Rings and support of another reach than the one that judges. */
-static void plan_for_another_reach(struct dice *d, struct trial *t)
+/* Rings and support of another overhang than the one that judges: another reach, or between the same whole pixels. */
+static void plan_for_another_overhang(struct dice *d, struct trial *t)
 {
     uint32_t pitch = t->pitch, overhang = t->overhang, reach = overhang / pitch;
-    pick_settings_of(d, t, reach == 0 || (reach < 32 && chance(d, 2)) ? reach + 1 : reach - 1);
+    if (chance(d, 3))
+        pick_settings_of(d, t, reach);
+    else
+        pick_settings_of(d, t, reach == 0 || (reach < 32 && chance(d, 2)) ? reach + 1 : reach - 1);
     plan_by_peer(t);
     t->pitch = pitch;
     t->overhang = overhang;
@@ -224,7 +227,7 @@ void make_check(struct dice *d, struct trial *t)
     typedef void change(struct dice *, struct trial *);
     static change *const changes[] = {add_held_support, add_held_support, add_any_support, take_support, take_support, overlap,
                                       change_ring, change_ring, change_ring, add_ring, swap_rings, lean, scribble_rings,
-                                      support_for_ring, plan_for_another_reach, enlarge_rings, enlarge_rings};
+                                      support_for_ring, plan_for_another_overhang, enlarge_rings, enlarge_rings};
     uint64_t times = below(d, 4);
     draw_lent(d, t);
     plan_by_peer(t);

@@ -17,7 +17,7 @@ static const char *const can_give[CALLS] = {"0 2 3 ", "0 1 2 3 4 5 6 7 ", "0 1 2
 enum kind {
     REACH_0, REACH_MIDDLE, REACH_32,
     PLAN_ONE_LAYER, PLAN_NOTHING, PLAN_SUPPORT, PLAN_RINGS, PLAN_LONG_RINGS, PLAN_CARRIED, PLAN_STOPPED, PLAN_NOT_JOINED,
-    PLAN_WIDEST, PLAN_HIGHEST, PLAN_LAYERS, PLAN_REACH_32,
+    PLAN_WIDEST, PLAN_HIGHEST, PLAN_LAYERS, PLAN_REACH_32, PLAN_BETWEEN, PLAN_BOUND_1088,
     CHECK_AS_PLANNED, CHECK_MORE, CHECK_LARGER, CHECK_FEWER, CHECK_ONE_LAYER,
     BAD_NO_SHADOW, BAD_NOT_NEAR, BAD_NO_NEIGHBOUR,
     READ_STORED, READ_NONE, READ_ONE_LAYER, READ_SHORT,
@@ -33,7 +33,7 @@ static const char *const kind_names[KINDS] = {
     "plan: one layer", "plan: neither support nor rings", "plan: support", "plan: rings", "plan: a ring over 255",
     "plan: support from above carried down", "plan: support from above stopped by part", "plan: near but not joined",
     "plan: width 256 with support or rings", "plan: height 256 with support or rings", "plan: 512 layers with support or rings",
-    "plan: rings with reach 32",
+    "plan: rings with reach 32", "plan: a ring that whole pixels of overhang would not give", "plan: rings with the bound 1,088",
     "check: accepted as planned", "check: accepted with more support", "check: accepted with larger rings",
     "check: accepted with support for a ring", "check: accepted with one layer",
     "check: bad ring outside the shadow", "check: bad ring not near", "check: bad ring without a neighbour before it",
@@ -60,19 +60,20 @@ static int shadow_at(const struct trial *t, uint64_t plane, uint64_t row, uint64
     return part_at(t, plane + 1, row, column) && !part_at(t, plane, row, column);
 }
 
-static int near_at(const struct trial *t, uint64_t plane, uint64_t row, uint64_t column)
+/* Whether part of the plane is within the given overhang. */
+static int near_at(const struct trial *t, int64_t overhang, uint64_t plane, uint64_t row, uint64_t column)
 {
-    int64_t reach = t->overhang / t->pitch;
+    int64_t pitch = t->pitch;
     for (uint64_t r = 0; r < t->h; r++)
         for (uint64_t c = 0; c < t->w; c++) {
             int64_t dr = (int64_t)r - (int64_t)row, dc = (int64_t)c - (int64_t)column;
-            if (dr * dr + dc * dc <= reach * reach && part_at(t, plane, r, c)) return 1;
+            if ((dr * dr + dc * dc) * pitch * pitch <= overhang * overhang && part_at(t, plane, r, c)) return 1;
         }
     return 0;
 }
 
 struct planned {
-    int support, carried, stopped, rings, long_rings, not_joined;
+    int support, carried, stopped, rings, long_rings, not_joined, between;
 };
 
 static void look_at_pixel(const struct trial *t, const struct outcome *o, uint64_t plane, uint64_t row, uint64_t column, struct planned *p)
@@ -88,8 +89,9 @@ static void look_at_pixel(const struct trial *t, const struct outcome *o, uint64
     p->stopped |= above && part_at(t, plane, row, column);
     p->rings |= ring > 0;
     p->long_rings |= ring > 255;
-    if (t->w * t->h <= 100 && ring == 0 && shadow_at(t, plane, row, column) && !p->not_joined)
-        p->not_joined = near_at(t, plane, row, column);
+    if (t->w * t->h > 100) return;
+    if (ring == 0 && shadow_at(t, plane, row, column) && !p->not_joined) p->not_joined = near_at(t, t->overhang, plane, row, column);
+    if (ring > 0 && !p->between) p->between = !near_at(t, t->overhang - t->overhang % t->pitch, plane, row, column);
 }
 
 static void note_plan(const struct trial *t, const struct outcome *o)
@@ -112,6 +114,8 @@ static void note_plan(const struct trial *t, const struct outcome *o)
     meet(PLAN_HIGHEST, t->h == 256 && (p.support || p.rings));
     meet(PLAN_LAYERS, t->n == 512 && (p.support || p.rings));
     meet(PLAN_REACH_32, t->overhang / t->pitch == 32 && p.rings);
+    meet(PLAN_BETWEEN, p.between);
+    meet(PLAN_BOUND_1088, t->overhang * t->overhang / (t->pitch * t->pitch) == 1088 && p.rings);
 }
 
 /* ---- Kinds of the other calls ---- */
@@ -127,7 +131,7 @@ static void note_check(const struct trial *t, uint64_t answer)
     } else if (kg_number(answer) == 10) {
         uint64_t plane = kg_layer(answer) - 1;
         int shadow = shadow_at(t, plane, kg_row(answer), kg_column(answer));
-        int near = near_at(t, plane, kg_row(answer), kg_column(answer));
+        int near = near_at(t, t->overhang, plane, kg_row(answer), kg_column(answer));
         meet(BAD_NO_SHADOW, !shadow);
         meet(BAD_NOT_NEAR, shadow && !near);
         meet(BAD_NO_NEIGHBOUR, shadow && near);

@@ -105,7 +105,7 @@ struct pair {
     struct size s;
     const uint8_t *part;
     uint64_t below;
-    int64_t reach;
+    int64_t pitch, overhang;
 };
 
 static int in_shadow(struct pair p, uint64_t row, uint64_t column)
@@ -123,12 +123,19 @@ static int inside(struct size s, int64_t row, int64_t column)
     return row >= 0 && row < (int64_t)s.h && column >= 0 && column < (int64_t)s.w;
 }
 
+/* A whole number is at most t * t / (p * p) rounded down exactly where it is at most t * t / (p * p): so nothing is divided. */
+static int within(struct pair p, int64_t dr, int64_t dc)
+{
+    return (dr * dr + dc * dc) * p.pitch * p.pitch <= p.overhang * p.overhang;
+}
+
 static int is_near(struct pair p, uint64_t row, uint64_t column)
 {
-    for (int64_t dr = -p.reach; dr <= p.reach; dr++)
-        for (int64_t dc = -p.reach; dc <= p.reach; dc++) {
+    int64_t around = p.overhang / p.pitch + 1; /* no pixel further away by rows or columns is near */
+    for (int64_t dr = -around; dr <= around; dr++)
+        for (int64_t dc = -around; dc <= around; dc++) {
             int64_t r = (int64_t)row + dr, c = (int64_t)column + dc;
-            if (dr * dr + dc * dc > p.reach * p.reach) continue;
+            if (!within(p, dr, dc)) continue;
             if (!inside(p.s, r, c)) continue;
             if (filled(p.part, p.s, p.below, (uint64_t)r, (uint64_t)c)) return 1;
         }
@@ -196,7 +203,7 @@ static void plan_support(struct pair p, const uint16_t *plane, uint8_t *support)
         }
 }
 
-static void plan(struct size s, uint32_t reach, const uint8_t *part, uint8_t *support, uint16_t *rings)
+static void plan(struct size s, uint32_t pitch, uint32_t overhang, const uint8_t *part, uint8_t *support, uint16_t *rings)
 {
     for (uint64_t k = 0; k < stack_bytes(s); k++) support[k] = 0;
     for (uint64_t above = s.n - 1; above > 0; above--) {
@@ -205,7 +212,8 @@ static void plan(struct size s, uint32_t reach, const uint8_t *part, uint8_t *su
         p.s = s;
         p.part = part;
         p.below = above - 1;
-        p.reach = reach;
+        p.pitch = pitch;
+        p.overhang = overhang;
         grow_rings(p, plane);
         plan_support(p, plane, support);
     }
@@ -223,7 +231,7 @@ kg_answer peer_plan(uint64_t w, uint64_t h, uint64_t n, uint32_t pitch, uint32_t
     if (support_len != stack_bytes(s)) return refused(5);
     if (rings_len != ring_count(s)) return refused(6);
     if (padding_set(part, s)) return refused(7);
-    plan(s, overhang / pitch, part, support, rings);
+    plan(s, pitch, overhang, part, support, rings);
     return value(0);
 }
 
@@ -267,8 +275,8 @@ static kg_answer find_overlap(struct size s, const uint8_t *part, const uint8_t 
 }
 
 /* The first bad ring (number 10) or the first unheld pixel (number 11) of all pairs. */
-static kg_answer find_in_pairs(unsigned number, struct size s, uint32_t reach, const uint8_t *part, const uint8_t *support,
-                               const uint16_t *rings)
+static kg_answer find_in_pairs(unsigned number, struct size s, uint32_t pitch, uint32_t overhang, const uint8_t *part,
+                               const uint8_t *support, const uint16_t *rings)
 {
     for (uint64_t below = 0; below + 1 < s.n; below++) {
         struct pair p;
@@ -276,7 +284,8 @@ static kg_answer find_in_pairs(unsigned number, struct size s, uint32_t reach, c
         p.s = s;
         p.part = part;
         p.below = below;
-        p.reach = reach;
+        p.pitch = pitch;
+        p.overhang = overhang;
         for (uint64_t row = 0; row < s.h; row++)
             for (uint64_t column = 0; column < s.w; column++) {
                 int found = number == 10 ? is_bad_ring(p, plane, row, column) : is_unheld(p, support, plane, row, column);
@@ -286,13 +295,14 @@ static kg_answer find_in_pairs(unsigned number, struct size s, uint32_t reach, c
     return value(0);
 }
 
-static kg_answer judge(struct size s, uint32_t reach, const uint8_t *part, const uint8_t *support, const uint16_t *rings)
+static kg_answer judge(struct size s, uint32_t pitch, uint32_t overhang, const uint8_t *part, const uint8_t *support,
+                       const uint16_t *rings)
 {
     kg_answer overlap = find_overlap(s, part, support);
     if (overlap != 0) return overlap;
-    kg_answer bad_ring = find_in_pairs(10, s, reach, part, support, rings);
+    kg_answer bad_ring = find_in_pairs(10, s, pitch, overhang, part, support, rings);
     if (bad_ring != 0) return bad_ring;
-    return find_in_pairs(11, s, reach, part, support, rings);
+    return find_in_pairs(11, s, pitch, overhang, part, support, rings);
 }
 
 kg_answer peer_check(uint64_t w, uint64_t h, uint64_t n, uint32_t pitch, uint32_t overhang,
@@ -308,7 +318,7 @@ kg_answer peer_check(uint64_t w, uint64_t h, uint64_t n, uint32_t pitch, uint32_
     if (rings_len != ring_count(s)) return refused(6);
     if (padding_set(part, s)) return refused(7);
     if (padding_set(support, s)) return refused(8);
-    return judge(s, overhang / pitch, part, support, rings);
+    return judge(s, pitch, overhang, part, support, rings);
 }
 
 /* ---- Reading a job file ---- */
@@ -556,7 +566,7 @@ static void report_job(struct text *t, const struct job *job, const uint8_t *par
     uint8_t *support = room_for(stack_bytes(s), sizeof *support);
     uint16_t *rings = room_for(ring_count(s), sizeof *rings);
     char line[128];
-    plan(s, reach, part, support, rings);
+    plan(s, job->pitch, job->overhang, part, support, rings);
     snprintf(line, sizeof line, "job %" PRIu64 " %" PRIu64 " %" PRIu64 " reach %" PRIu32 "\n", s.w, s.h, s.n, reach);
     put_line(t, line);
     for (uint64_t left = s.n; left > 0; left--) {

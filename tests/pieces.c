@@ -32,6 +32,10 @@ static const struct piece pieces[] = {
     {"f", PLAN, 8, 1, 3, 200, {0x00, 0xE0, 0xFF}, {0xE7, 0x07}, RINGS_OF_F, 0, 0, 0, 0},
     {"g", PLAN, 8, 1, 3, 200, {0x01, 0xE0, 0xFF}, {0xE6, 0x07}, RINGS_OF_F, 0, 0, 0, 0},
     {"h", PLAN, 2, 2, 2, 100, {0x80, 0x00, 0xC0, 0xC0}, {0x00, 0x40}, {0, 1, 1, 0}, 0, 0, 0, 0},
+    {"h at t 150", PLAN, 2, 2, 2, 150, {0x80, 0x00, 0xC0, 0xC0}, {0x00, 0x00}, {0, 1, 1, 1}, 0, 0, 0, 0},
+    {"h at t 141", PLAN, 2, 2, 2, 141, {0x80, 0x00, 0xC0, 0xC0}, {0x00, 0x40}, {0, 1, 1, 0}, 0, 0, 0, 0},
+    {"h at t 142", PLAN, 2, 2, 2, 142, {0x80, 0x00, 0xC0, 0xC0}, {0x00, 0x00}, {0, 1, 1, 1}, 0, 0, 0, 0},
+    {"h at t 150, checked at t 141", CHECK, 2, 2, 2, 141, {0x80, 0x00, 0xC0, 0xC0}, {0x00, 0x00}, {0, 1, 1, 1}, 10, 1, 1, 1},
     {"i, all zero", PLAN, 8, 1, 3, 200, {0}, {0}, {0}, 0, 0, 0, 0},
     {"i, equal layers", PLAN, 8, 1, 3, 200, {0xA7, 0xA7, 0xA7}, {0}, {0}, 0, 0, 0, 0},
     {"j", CHECK, 8, 1, 2, 200, {0xE0, 0xFF}, {0x0F, 0x00}, RINGS_OF_B, 0, 0, 0, 0},
@@ -142,6 +146,50 @@ static void try_reaches(side *of, const char *who)
         expect(o.signal == 0 && o.answer == (reaches[k].number | (uint64_t)reaches[k].reach << 16), who, what);
         free_outcome_of(of, &o);
     }
+}
+
+/* A full layer over the first pixel of 33 rows of 9: every other pixel gets as a ring how many rows or columns it is away, whichever is more,
+ * and the last is at the squared distance 32 * 32 + 8 * 8 = 1,088. */
+static void try_bound(uint32_t pitch, uint32_t overhang, int last, side *of, const char *who)
+{
+    enum { W = 9, H = 33 };
+    struct trial t;
+    struct outcome o;
+    uint8_t support[2 * H * 2] = {0};
+    uint16_t rings[W * H];
+    char what[64];
+    memset(&t, 0, sizeof t);
+    t.call = PLAN;
+    t.w = W;
+    t.h = H;
+    t.n = 2;
+    t.pitch = pitch;
+    t.overhang = overhang;
+    buffer_make(&t, PART_STACK, sizeof support);
+    buffer_make(&t, SUPPORT_STACK, sizeof support);
+    buffer_make(&t, RING_PLANES, W * H);
+    t.lent[PART_STACK].bytes[0] = 0x80;
+    for (size_t row = 0; row < H; row++) {
+        memcpy(t.lent[PART_STACK].bytes + 2 * (H + row), "\xFF\x80", 2);
+        for (size_t column = 0; column < W; column++) rings[row * W + column] = (uint16_t)(row > column ? row : column);
+    }
+    if (!last) {
+        support[2 * H - 1] = 0x80;
+        rings[W * H - 1] = 0;
+    }
+    ask(of, &t, &o);
+    snprintf(what, sizeof what, "the disc of p %u, t %u", (unsigned)pitch, (unsigned)overhang);
+    expect(o.signal == 0 && o.answer == 0 && holds(&t, &o, SUPPORT_STACK, support) && holds(&t, &o, RING_PLANES, rings), who, what);
+    free_outcome_of(of, &o);
+    trial_free(&t);
+}
+
+static void try_bounds(side *of, const char *who)
+{
+    try_bound(66, 2177, 1, of, who); /* 2,177 * 2,177 is one more than 1,088 * 66 * 66 */
+    try_bound(66, 2176, 0, of, who);
+    try_bound(303, 9998, 1, of, who);
+    try_bound(65, 2144, 0, of, who); /* the longest overhang at pitch 65 */
 }
 
 /* An empty part of the given size is planned, or refused. */
@@ -294,6 +342,7 @@ int try_pieces(void)
     for (int k = 0; k < 2; k++) {
         for (size_t j = 0; j < sizeof pieces / sizeof *pieces; j++) try_piece(&pieces[j], sides[k], names[k]);
         try_reaches(sides[k], names[k]);
+        try_bounds(sides[k], names[k]);
         try_sizes(sides[k], names[k]);
         try_reading(sides[k], names[k]);
         try_damages(sides[k], names[k]);

@@ -271,12 +271,12 @@ static int try_settings(struct trial *t, uint32_t pitch, uint32_t overhang)
     return keep(t, &small);
 }
 
-/* Pitch 10 or 100 and the least overhang that still fails. */
+/* Pitch 10 or 100 and the least overhang that still fails, of whole micrometres or of halves of a pixel. */
 static int plain_settings(struct trial *t)
 {
-    uint32_t pitch = t->call == REACH ? 10 : 100, step = t->call == REACH ? 1 : 100;
+    uint32_t pitch = t->call == REACH ? 10 : 100, step = t->call == REACH ? 1 : 50;
     if (uses(t->call, JOB_FILE)) return 0;
-    for (uint32_t overhang = 0; overhang <= 40 * step; overhang += step) {
+    for (uint32_t overhang = 0; overhang <= 80 * step; overhang += step) {
         if (t->pitch == pitch && t->overhang <= overhang) return 0;
         if (try_settings(t, pitch, overhang)) return 1;
     }

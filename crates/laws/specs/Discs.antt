@@ -1,7 +1,7 @@
 -- Roots and discs: the floor-root rule, and what a half-width says of distances.
 use mathlib.Core.Path.{_≡_, refl, sym, subst, _∙_}
 use mathlib.Core.Bool.{Bool, true}
-use mathlib.Core.List.{List, [], _∷_, _++_}
+use mathlib.Core.List.{List, _++_}
 use Prim.Native.Nat.{ℕ, zero, suc, _+_, _-_, _*_, _≤_, _<_}
 use native.Mathlib.Nat.{mul-le-mul, suc-mul, mul-suc}
 use native.Mathlib.Omega.{arith}
@@ -156,32 +156,18 @@ root-runs (suc n) a m k e h =
     one-more : (a : ℕ) → suc a * suc a ≡ a * a + (2 * a + 1)
     one-more a = omega (arith, suc-mul a (suc a), mul-suc a a)
 
-table-length : length (joinedUp 0 32 rootRun) ≡ 1024
-unfolding joinedUp
-table-length = refl
-
-last-entry : getD (joinedUp 0 32 rootRun ++ 32 ∷ []) 1024 0 ≡ 32
-unfolding joinedUp
-last-entry = refl
-
-last-low : square 32 ≤ 1024
-unfolding square
-last-low = omega arith
-
-last-high : 1024 < square (suc 32)
-unfolding square
-last-high = omega arith
-
--- the table of the roots of 0 to 1,024: 32 runs, and the root of 1,024
+-- the table of the roots of 0 to 1,088: 33 runs
 abbrev pub rootTable : List ℕ
-rootTable = joinedUp 0 32 rootRun ++ 32 ∷ []
+rootTable = joinedUp 0 33 rootRun
 
 pub table-rule : (m : ℕ) → m ≤ mostBound → getD rootTable m 0 ≡ root m
-table-rule m h =
-    split (ltb m 1024)
-    (λ t.
-    let l : m < 1024 = ltb-true m 1024 t in
-    List·getD-append (joinedUp 0 32 rootRun) (32 ∷ []) 0 m (omega (arith, table-length)) ∙ root-runs 32 0 m m (omega arith) l)
-    (λ t.
-    let e : m ≡ 1024 = omega (arith, ltb-false m 1024 t) in
-    rw e (last-entry ∙ root-is 1024 32 last-low last-high))
+table-rule m h = root-runs 33 0 m m (omega arith) (omega arith)
+
+-- a list that is the table
+pub record Roots (l : List ℕ) : Type 0 where
+  pub long : length l ≡ suc mostBound
+  pub roots : (m : ℕ) → m ≤ mostBound → getD l m 0 ≡ root m
+
+pub table-roots : Roots rootTable
+unfolding joinedUp
+table-roots = record { long = refl; roots = table-rule }

@@ -7,7 +7,7 @@ use Prim.Native.Nat.{ℕ}
 use lib.ListN.{getD, take, drop, set}
 use Rattle.rules.specs.Tools.{bit, some, count, largest, each, joinedUp, first}
 use Rattle.rules.specs.Images.{Rings, within, sized, rowBytes, bitAt, pixel, rowsOf, stackBytes, paddingSet, byteOf, bytesOf, ringsIn, ringAt}
-use Rattle.rules.specs.Reach.{settable, reachOf, square, boundOf, apart, distance², root, halfWidth}
+use Rattle.rules.specs.Reach.{settable, reachOf, square, boundBy, boundOf, apart, distance², root, halfWidth}
 use Rattle.rules.specs.Planning.{shadow, near, seeds, reached, touch, source, touching, fits, grow, grown, ringPlane, rings, excused, supportUnder, topOf}
 use Rattle.rules.specs.Planning.{planned, empty, plannedRings, plannedBytes, dilated, swallowed, growingSwallow, regionSubtraction}
 use Rattle.rules.specs.Judging.{overlap, badRing, unheld, firstIn, placeOf, tell, verdict, verdictOf}
@@ -31,7 +31,7 @@ leaves s part =
     let ring : List ℕ = each 0 (ringsIn s) (λ x. 0) in
     planSupport s part sup ring ∷ planRings s part sup ring ∷ []
 
--- a plate over one pixel, all of it within reach and joined; and rows of two bytes
+-- a plate over one pixel, all of it near and joined; and rows of two bytes
 pub plans-rows :
     leaves (settings 3 3 2 100 300) (0x80 ∷ 0x00 ∷ 0x00 ∷ 0xE0 ∷ 0xE0 ∷ 0xE0 ∷ [])
     ∷ leaves (settings 9 2 2 100 200) (0x80 ∷ 0x00 ∷ 0x00 ∷ 0x00 ∷ 0xFF ∷ 0x80 ∷ 0x00 ∷ 0x80 ∷ [])
@@ -39,7 +39,7 @@ pub plans-rows :
     ≡ ((0x00 ∷ 0x00 ∷ 0x00 ∷ 0x00 ∷ 0x00 ∷ 0x00 ∷ []) ∷ (0 ∷ 1 ∷ 2 ∷ 1 ∷ 1 ∷ 2 ∷ 2 ∷ 2 ∷ 2 ∷ []) ∷ [])
     ∷ ((0x1F ∷ 0x80 ∷ 0x00 ∷ 0x80 ∷ 0x00 ∷ 0x00 ∷ 0x00 ∷ 0x00 ∷ []) ∷ (0 ∷ 1 ∷ 2 ∷ 0 ∷ 0 ∷ 0 ∷ 0 ∷ 0 ∷ 0 ∷ 0 ∷ 0 ∷ 0 ∷ 0 ∷ 0 ∷ 0 ∷ 0 ∷ 0 ∷ 0 ∷ []) ∷ [])
     ∷ []
-unfolding bit some each joinedUp within sized rowBytes bitAt pixel rowsOf stackBytes paddingSet byteOf bytesOf ringsIn ringAt settable reachOf square boundOf
+unfolding bit some each joinedUp within sized rowBytes bitAt pixel rowsOf stackBytes paddingSet byteOf bytesOf ringsIn ringAt settable reachOf square boundBy boundOf
     apart distance² shadow near seeds reached touch source touching fits grow grown ringPlane rings excused supportUnder topOf planned empty plannedRings
     plannedBytes reachCases settingCases lengthCases planCases stackCases planRefusal planSupport planRings settings leaves
 plans-rows = refl
@@ -52,14 +52,20 @@ pub plans-paths :
     ≡ ((0x00 ∷ 0x00 ∷ []) ∷ (0 ∷ 1 ∷ 2 ∷ 3 ∷ 4 ∷ 0 ∷ 0 ∷ 0 ∷ []) ∷ [])
     ∷ ((0x00 ∷ 0x00 ∷ 0x00 ∷ 0x00 ∷ 0x00 ∷ 0x00 ∷ []) ∷ (0 ∷ 1 ∷ 2 ∷ 3 ∷ 4 ∷ 5 ∷ 0 ∷ 0 ∷ 0 ∷ 0 ∷ 0 ∷ 5 ∷ 10 ∷ 9 ∷ 8 ∷ 7 ∷ 6 ∷ 6 ∷ []) ∷ [])
     ∷ []
-unfolding bit some each joinedUp within sized rowBytes bitAt pixel rowsOf stackBytes paddingSet byteOf bytesOf ringsIn ringAt settable reachOf square boundOf
+unfolding bit some each joinedUp within sized rowBytes bitAt pixel rowsOf stackBytes paddingSet byteOf bytesOf ringsIn ringAt settable reachOf square boundBy boundOf
     apart distance² shadow near seeds reached touch source touching fits grow grown ringPlane rings excused supportUnder topOf planned empty plannedRings
     plannedBytes reachCases settingCases lengthCases planCases stackCases planRefusal planSupport planRings settings leaves
 plans-paths = refl
 
--- the bound on squared distances is the reach squared, for the lowest pair and the highest
-pub bounds : map (λ t. boundOf (settings 1 1 512 100 t) 0) (0 ∷ 99 ∷ 199 ∷ 510 ∷ 3210 ∷ []) ++ boundOf (settings 1 1 512 135 3810) 510 ∷ [] ≡ 0 ∷ 0 ∷ 1 ∷ 25 ∷ 1024 ∷ 784 ∷ []
-unfolding reachOf square boundOf settings
+-- "t²/p² rounded down": p 100 with t up to 224 and more; p 101 and p 135, the lowest pair and the highest; and p 66, t 2,177, where the quotient is only just 1,088
+pub bounds :
+    map (λ t. boundOf (settings 1 1 512 100 t) 0) (0 ∷ 99 ∷ 100 ∷ 141 ∷ 142 ∷ 150 ∷ 173 ∷ 174 ∷ 199 ∷ 200 ∷ 223 ∷ 224 ∷ 510 ∷ 3200 ∷ 3299 ∷ [])
+    ∷ (boundOf (settings 1 1 512 101 510) 0 ∷ boundOf (settings 1 1 512 135 3810) 510 ∷ boundOf (settings 1 1 2 66 2176) 0 ∷ boundOf (settings 1 1 2 66 2177) 0 ∷ [])
+    ∷ []
+    ≡ (0 ∷ 0 ∷ 1 ∷ 1 ∷ 2 ∷ 2 ∷ 2 ∷ 3 ∷ 3 ∷ 4 ∷ 4 ∷ 5 ∷ 26 ∷ 1024 ∷ 1088 ∷ [])
+    ∷ (25 ∷ 796 ∷ 1087 ∷ 1088 ∷ [])
+    ∷ []
+unfolding square boundBy boundOf settings
 bounds = refl
 
 -- "one of its eight neighbours": those of the middle of nine pixels, and of a corner
@@ -68,9 +74,9 @@ pub eight-neighbours : map (touch 3 4) (0 ∷ 1 ∷ 2 ∷ 3 ∷ 4 ∷ 5 ∷ 6 �
 unfolding apart touch
 eight-neighbours = refl
 
--- "the largest whole number whose square is at most m", and how far a disc of radius 5 runs to each side in its rows
-pub roots-and-halves : map root (0 ∷ 1 ∷ 2 ∷ 3 ∷ 4 ∷ 8 ∷ 9 ∷ 15 ∷ 16 ∷ 99 ∷ 100 ∷ 1023 ∷ 1024 ∷ []) ∷ map (halfWidth 25) (0 ∷ 1 ∷ 2 ∷ 3 ∷ 4 ∷ 5 ∷ []) ∷ []
-    ≡ (0 ∷ 1 ∷ 1 ∷ 1 ∷ 2 ∷ 2 ∷ 3 ∷ 3 ∷ 4 ∷ 9 ∷ 10 ∷ 31 ∷ 32 ∷ []) ∷ (5 ∷ 4 ∷ 4 ∷ 4 ∷ 3 ∷ 0 ∷ []) ∷ []
+-- "the largest whole number whose square is at most m", and how far the discs of the bounds 25 and 1,088 run to each side in their rows
+pub roots-and-halves : map root (0 ∷ 1 ∷ 2 ∷ 3 ∷ 4 ∷ 8 ∷ 9 ∷ 15 ∷ 16 ∷ 99 ∷ 100 ∷ 1023 ∷ 1024 ∷ 1088 ∷ 1089 ∷ []) ∷ map (halfWidth 25) (0 ∷ 1 ∷ 2 ∷ 3 ∷ 4 ∷ 5 ∷ []) ∷ map (halfWidth 1088) (0 ∷ 8 ∷ 9 ∷ 32 ∷ []) ∷ []
+    ≡ (0 ∷ 1 ∷ 1 ∷ 1 ∷ 2 ∷ 2 ∷ 3 ∷ 3 ∷ 4 ∷ 9 ∷ 10 ∷ 31 ∷ 32 ∷ 32 ∷ 33 ∷ []) ∷ (5 ∷ 4 ∷ 4 ∷ 4 ∷ 3 ∷ 0 ∷ []) ∷ (32 ∷ 32 ∷ 31 ∷ 8 ∷ []) ∷ []
 unfolding largest square root halfWidth
 roots-and-halves = refl
 
@@ -132,14 +138,14 @@ pub judge-numbers :
     ∷ judge-says (settings 7 1 2 10 0) (2 ∷ 2 ∷ []) (4 ∷ 1 ∷ []) (each 0 7 (λ x. 0))
     ∷ []
     ≡ (4 ∷ []) ∷ (5 ∷ []) ∷ (6 ∷ []) ∷ (7 ∷ []) ∷ (8 ∷ []) ∷ (0 ∷ []) ∷ (11 ∷ 2 ∷ 1 ∷ 1 ∷ []) ∷ (10 ∷ 2 ∷ 1 ∷ 1 ∷ []) ∷ (9 ∷ 2 ∷ 1 ∷ 0 ∷ []) ∷ (11 ∷ 1 ∷ 0 ∷ 4 ∷ []) ∷ (7 ∷ []) ∷ (8 ∷ []) ∷ []
-unfolding some each first within sized rowBytes bitAt pixel rowsOf stackBytes paddingSet ringsIn ringAt settable reachOf square boundOf apart distance² shadow
+unfolding some each first within sized rowBytes bitAt pixel rowsOf stackBytes paddingSet ringsIn ringAt settable reachOf square boundBy boundOf apart distance² shadow
     near seeds reached touch source touching fits overlap badRing unheld firstIn placeOf tell verdict verdictOf reachCases settingCases lengthCases judgeCases
     bothCases stackCases judgeAnswer settings judge-says
 judge-numbers = refl
 
 -- "A ring need not be the smallest to be accepted."
 pub larger-ring : judge-says (settings 1 4 2 100 100) (0x80 ∷ 0x00 ∷ 0x00 ∷ 0x80 ∷ 0x80 ∷ 0x80 ∷ 0x80 ∷ 0x80 ∷ []) (each 0 8 (λ x. 0)) (0 ∷ 1 ∷ 2 ∷ 0 ∷ []) ≡ 0 ∷ []
-unfolding some each first within sized rowBytes bitAt pixel rowsOf stackBytes paddingSet ringsIn ringAt settable reachOf square boundOf apart distance² shadow
+unfolding some each first within sized rowBytes bitAt pixel rowsOf stackBytes paddingSet ringsIn ringAt settable reachOf square boundBy boundOf apart distance² shadow
     near seeds reached touch source touching fits overlap badRing unheld firstIn placeOf tell verdict verdictOf reachCases settingCases lengthCases judgeCases
     bothCases stackCases judgeAnswer settings judge-says
 larger-ring = refl
@@ -267,24 +273,32 @@ pub report-texts :
     ∷ (114 ∷ 101 ∷ 102 ∷ 117 ∷ 115 ∷ 101 ∷ 100 ∷ 32 ∷ 49 ∷ 50 ∷ 10 ∷ [])
     ∷ []
 unfolding bit some count each joinedUp within sized rowBytes bitAt pixel rowsOf stackBytes paddingSet byteOf bytesOf ringsIn ringAt settable reachOf square
-    boundOf shadow excused supportUnder topOf planned empty rings plannedRings plannedBytes headEnd partEnd supportCount supportEnd ringCount jobEnd settingsIn
+    boundBy boundOf shadow excused supportUnder topOf planned empty rings plannedRings plannedBytes headEnd partEnd supportCount supportEnd ringCount jobEnd settingsIn
     storedIn partIn supportIn reachCases settingCases sectionCases readCases digits decimal spaced refusedLine jobLine filled excusedAbove layerLine planLines
     reportCases reportOf
 report-texts = refl
 
 -- three layers of two rows and nine columns, with empty support and no rings stored: pixels are counted over all rows, and planned afresh;
--- `job 9 2 3 reach 2`, `2 12 0 0`, `1 4 5 3`, `0 2 5 2`
+-- `job 9 2 3 reach 2`, `2 12 0 0`, `1 4 5 3`, `0 2 5 2`. And piece h at t 150: the corner is near, and the reach is told in whole pixels;
+-- `job 2 2 2 reach 1`, `1 4 0 0`, `0 1 0 3`
 pub report-rows :
     reportOf (
     (0 ∷ 0 ∷ 0 ∷ 5 ∷ 0 ∷ 9 ∷ 0 ∷ 2 ∷ 0 ∷ 3 ∷ 0 ∷ 100 ∷ 0 ∷ 200 ∷ 0 ∷ 0 ∷ 0 ∷ 6 ∷ 0xC0 ∷ 0x00 ∷ 0x00 ∷ 0x00 ∷ 0xE0 ∷ 0x00 ∷ 0x80 ∷ 0x00 ∷ 0xFF ∷ 0x80 ∷ 0xC1 ∷ 0x00 ∷ [])
     ++ (0 ∷ 0 ∷ 0 ∷ 6 ∷ []) ++ each 0 12 (λ x. 0) ++ (0 ∷ 0 ∷ 0 ∷ 36 ∷ []) ++ each 0 72 (λ x. 0))
-    ≡ 106 ∷ 111 ∷ 98 ∷ 32 ∷ 57 ∷ 32 ∷ 50 ∷ 32 ∷ 51 ∷ 32 ∷ 114 ∷ 101 ∷ 97 ∷ 99 ∷ 104 ∷ 32 ∷ 50 ∷ 10
+    ∷ reportOf (0 ∷ 0 ∷ 0 ∷ 5 ∷ 0 ∷ 2 ∷ 0 ∷ 2 ∷ 0 ∷ 2 ∷ 0 ∷ 100 ∷ 0 ∷ 150 ∷ 0 ∷ 0 ∷ 0 ∷ 4 ∷ 0x80 ∷ 0x00 ∷ 0xC0 ∷ 0xC0 ∷ 0 ∷ 0 ∷ 0 ∷ 0 ∷ 0 ∷ 0 ∷ 0 ∷ 0 ∷ [])
+    ∷ []
+    ≡ (106 ∷ 111 ∷ 98 ∷ 32 ∷ 57 ∷ 32 ∷ 50 ∷ 32 ∷ 51 ∷ 32 ∷ 114 ∷ 101 ∷ 97 ∷ 99 ∷ 104 ∷ 32 ∷ 50 ∷ 10
     ∷ 50 ∷ 32 ∷ 49 ∷ 50 ∷ 32 ∷ 48 ∷ 32 ∷ 48 ∷ 10
     ∷ 49 ∷ 32 ∷ 52 ∷ 32 ∷ 53 ∷ 32 ∷ 51 ∷ 10
     ∷ 48 ∷ 32 ∷ 50 ∷ 32 ∷ 53 ∷ 32 ∷ 50 ∷ 10
+    ∷ [])
+    ∷ (106 ∷ 111 ∷ 98 ∷ 32 ∷ 50 ∷ 32 ∷ 50 ∷ 32 ∷ 50 ∷ 32 ∷ 114 ∷ 101 ∷ 97 ∷ 99 ∷ 104 ∷ 32 ∷ 49 ∷ 10
+    ∷ 49 ∷ 32 ∷ 52 ∷ 32 ∷ 48 ∷ 32 ∷ 48 ∷ 10
+    ∷ 48 ∷ 32 ∷ 49 ∷ 32 ∷ 48 ∷ 32 ∷ 51 ∷ 10
+    ∷ [])
     ∷ []
 unfolding bit some count each joinedUp within sized rowBytes bitAt pixel rowsOf stackBytes paddingSet byteOf bytesOf ringsIn ringAt settable reachOf square
-    boundOf apart distance² shadow near seeds reached touch source touching fits grow grown ringPlane rings excused supportUnder topOf planned empty
+    boundBy boundOf apart distance² shadow near seeds reached touch source touching fits grow grown ringPlane rings excused supportUnder topOf planned empty
     plannedRings plannedBytes headEnd partEnd supportCount supportEnd ringCount jobEnd settingsIn storedIn partIn supportIn reachCases settingCases sectionCases
     readCases digits decimal spaced refusedLine jobLine filled excusedAbove layerLine planLines reportCases reportOf
 report-rows = refl

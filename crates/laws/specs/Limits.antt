@@ -1,14 +1,14 @@
 -- What the tests of sizes and settings say of the numbers: for each test the refusal that it gives, and for none of them the ranges.
-use mathlib.Core.Path.{_≡_}
+use mathlib.Core.Path.{_≡_, subst}
 use mathlib.Core.Bool.{true, not, _&&_}
-use Prim.Native.Nat.{ℕ, _-_, _*_, _≤_}
-use native.Mathlib.Nat.{mul-le-mul}
+use Prim.Native.Nat.{ℕ, suc, _-_, _*_, _/_, _≤_, _<_}
+use native.Mathlib.Nat.{suc-mul, mul-suc, mul-le-mul, mul-pos, mul-mul-mul-comm, div-mul-le-self, le-div-iff-mul-le, div-lt-iff-lt-mul}
 use native.Mathlib.Omega.{arith}
 use lib.Dec.{leb, ltb}
 use borrow.Author.Tests.{leb-true, ltb-false, not-false}
 use Rattle.rules.specs.Tools.{refusal}
 use Rattle.rules.specs.Images.{within, sized, rowBytes, rowsOf, stackBytes, ringsIn}
-use Rattle.rules.specs.Reach.{settable, reachOf, mostReach, square, boundOf, mostBound}
+use Rattle.rules.specs.Reach.{settable, reachOf, mostReach, square, boundBy, boundOf, mostBound}
 use Rattle.rules.specs.Calls.{reachCases, settingCases}
 use Rattle.rules.specs.declared.Micrometres.{Micrometres}
 use Rattle.rules.specs.declared.Settings.{Settings}
@@ -102,7 +102,37 @@ rings-most s r =
     let k : s .n - 1 ≤ 511 = omega arith in
     mul-le-mul k (area-most (s .w) (s .h) (r .w-high) (r .h-high))
 
+-- the bound lies between the square of the reach and that of the next number
+pub bound-low : (p t : Micrometres) → 0 < p .0 → square (reachOf p t .0) ≤ boundBy p t .0
+unfolding square reachOf boundBy
+bound-low p t h =
+    let r : ℕ = t .0 / p .0 in
+    le-div-iff-mul-le (mul-pos h h) .1
+    (subst (λ (x : ℕ). x ≤ t .0 * t .0) (mul-mul-mul-comm r (p .0) r (p .0)) (mul-le-mul (div-mul-le-self (t .0) (p .0)) (div-mul-le-self (t .0) (p .0))))
+
+squares-less : (a b : ℕ) → a < b → a * a < b * b
+squares-less a b l =
+    let m : suc a * suc a ≤ b * b = mul-le-mul l l in
+    omega (arith, suc-mul a (suc a), mul-suc a a)
+
+pub bound-high : (p t : Micrometres) → 0 < p .0 → boundBy p t .0 < square (suc (reachOf p t .0))
+unfolding square reachOf boundBy
+bound-high p t h =
+    let r : ℕ = suc (t .0 / p .0) in
+    let l : t .0 < r * p .0 = div-lt-iff-lt-mul h .0 (omega arith) in
+    div-lt-iff-lt-mul (mul-pos h h) .1
+    (subst (λ (x : ℕ). t .0 * t .0 < x) (mul-mul-mul-comm r (p .0) r (p .0)) (squares-less (t .0) (r * p .0) l))
+
 -- the bound of settings that are not refused
+pub bound-by-most : (p t : Micrometres) → Settable p t → boundBy p t .0 ≤ mostBound
+unfolding square
+bound-by-most p t k =
+    let r : suc (reachOf p t .0) ≤ 33 = omega (arith, k .reach-high) in
+    omega (arith, bound-high p t (omega (arith, k .pitch-low)), mul-le-mul r r)
+
+pub settable-in : (s : Settings) → Ranged s → Settable (s .pitch) (s .overhang)
+settable-in s r = record { pitch-low = r .pitch-low; pitch-high = r .pitch-high; overhang-high = r .overhang-high; reach-high = r .reach-high }
+
 pub bound-most : (s : Settings) (i : ℕ) → Ranged s → boundOf s i ≤ mostBound
-unfolding boundOf square
-bound-most s i r = mul-le-mul (r .reach-high) (r .reach-high)
+unfolding boundOf
+bound-most s i r = bound-by-most (s .pitch) (s .overhang) (settable-in s r)

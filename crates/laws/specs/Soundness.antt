@@ -19,7 +19,7 @@ use Rattle.rules.specs.Judging.{overlap, badRing, unheld, verdict}
 use Rattle.rules.specs.declared.Judged.the-variants.{Accepted}
 use Rattle.rules.specs.Demands.{Joined, start, onward, freeIn, seedIn, JoinedBy, Excused, Sound}
 use Rattle.laws.specs.Tests.{split, clash, bool-eq, and-l, and-r, and-in, or-l, or-r, or-out, or-cases, some-in, some-out, not-in, not-out}
-use Rattle.laws.specs.Growing.{Right, chain, ring-fewest, after-right, right-same, length-grown}
+use Rattle.laws.specs.Growing.{Right, fits-in, fits-out, chain, ring-fewest, after-right, right-same, length-grown}
 use Rattle.laws.specs.Places.{Nowhere, Passed, accepted-in, accepted-out}
 
 -- Lists of planes -----------------------------------------------------------------------------------------------
@@ -255,18 +255,41 @@ module _ (w h n : ℕ) (q : ℕ → ℕ) (part : Stack) where
     (λ s. (rings w h n q part, rings-length, accepted-in w h n q part sup ringsOf (sound-accepted sup s))),
   )
 
--- More reach, never more support (T-14), by (5) and (6)
+-- A larger bound, never more support (T-14), by (5) and (6)
 joined-wider : {m : ℕ} {t : ℕ → ℕ → Bool} {free free′ seed : Plane} {k p : ℕ} → ((x : ℕ) → free x ≡ true → free′ x ≡ true) → Joined m t free seed k p → Joined m t free′ seed k p
 joined-wider s (start f l t u) = start (s _ f) l t u
 joined-wider s (onward f l t r) = onward (s _ f) l t (joined-wider s r)
 
+pub near-wider : (w h a b : ℕ) (low : Plane) → a ≤ b → (p : ℕ) → near w h a low p ≡ true → near w h b low p ≡ true
+unfolding near
+near-wider w h a b low l p e =
+    let (o, lo, t) = some-out (h * w) (λ o. low o && leb (distance² w p o) a) e in
+    some-in (h * w) (λ o. low o && leb (distance² w p o) b) o lo
+    (and-in (low o) _ (and-l (low o) _ t) (le-leb (distance² w p o) b (omega (arith, leb-true (distance² w p o) a (and-r (low o) _ t)))))
+
 pub reached-wider : (w h a b : ℕ) (low up : Plane) → a ≤ b → (p : ℕ) → reached w h a low up p ≡ true → reached w h b low up p ≡ true
-unfolding reached near
+unfolding reached
 reached-wider w h a b low up l p e =
-    let (o, lo, t) = some-out (h * w) (λ o. low o && leb (distance² w p o) a) (and-r (shadow low up p) _ e) in
-    and-in (shadow low up p) _ (and-l (shadow low up p) _ e)
-    (some-in (h * w) (λ o. low o && leb (distance² w p o) b) o lo
-    (and-in (low o) _ (and-l (low o) _ t) (le-leb (distance² w p o) b (omega (arith, leb-true (distance² w p o) a (and-r (low o) _ t))))))
+    and-in (shadow low up p) _ (and-l (shadow low up p) _ e) (near-wider w h a b low l p (and-r (shadow low up p) _ e))
+
+-- rings that were good stay good, so what was accepted stays accepted
+pub accepted-wider : (w h n : ℕ) (q q′ : ℕ → ℕ) (part sup : Stack) (ring : Rings) → ((i : ℕ) → q i ≤ q′ i) →
+    verdict w h n q part sup ring ≡ Accepted → verdict w h n q′ part sup ring ≡ Accepted
+accepted-wider w h n q q′ part sup ring l e =
+    let c = accepted-out w h n q part sup ring e in
+    accepted-in w h n q′ part sup ring (record {
+      no-overlap = c .no-overlap;
+      no-bad-ring = right-in w h n q′ part ring (λ i li. wider i (right-out w h n q part ring (c .no-bad-ring) i li));
+      none-unheld = c .none-unheld;
+    })
+  where
+    wider : (i : ℕ) → Right (h * w) (touch w) (freeIn w h q part i) (seedIn w h q part i) (ring i) → Right (h * w) (touch w) (freeIn w h q′ part i) (seedIn w h q′ part i) (ring i)
+    wider i r p j lp x =
+        let F : Plane = freeIn w h q part i in
+        let F′ : Plane = freeIn w h q′ part i in
+        let S : Plane = seedIn w h q part i in
+        let (f, (o, lo, t, u)) = fits-out (h * w) (touch w) F S (ring i) j p (r p j lp x) in
+        fits-in (h * w) (touch w) F′ S (ring i) j p o (reached-wider w h (q i) (q′ i) (part i) (part (suc i)) (l i) p f) lo t u
 
 pub plan-wider : (w h n : ℕ) (q q′ : ℕ → ℕ) (part : Stack) → ((i : ℕ) → q i ≤ q′ i) →
     (i p : ℕ) → i < n → p < h * w → planned n part empty (ringsOf w h n q′ part) i p ≡ true → planned n part empty (ringsOf w h n q part) i p ≡ true

@@ -1,20 +1,19 @@
 -- The tests of pitch, overhang and reach on plain values.
 use mathlib.Core.Path.{_≡_, sym, ap, _∙_}
 use mathlib.Core.Bool.{true}
-use Prim.Native.Nat.{ℕ, _*_, _≤_, _<_}
+use Prim.Native.Nat.{ℕ, _≤_, _<_}
 use native.Mathlib.Omega.{arith}
 use lib.Dec.{leb}
 use borrow.Author.Tests.{lt-ltb, le-ltb}
 use Rattle.rules.specs.Tools.{refusal}
 use Rattle.rules.specs.Images.{within}
-use Rattle.rules.specs.Reach.{settable, reachOf, mostReach, square, boundOf, mostBound}
+use Rattle.rules.specs.Reach.{settable, reachOf, mostReach}
 use Rattle.rules.specs.Calls.{reachCases, reachAnswer}
 use Rattle.rules.specs.declared.Micrometres.{Micrometres}
 use Rattle.rules.specs.declared.Pixels.{Pixels}
-use Rattle.rules.specs.declared.Settings.{Settings}
 use Rattle.laws.specs.Tests.{and-l}
 use Rattle.rules.specs.declared.Reached.the-variants.{By, Refused}
-use Rattle.laws.specs.Limits.{Ranged, within-out, settable-out, bound-most}
+use Rattle.laws.specs.Limits.{within-out, settable-out}
 use Rattle.laws.specs.Refusals.{answer-fine, answer-refused}
 
 pub pitch-some : (p t : Micrometres) → settable p t ≡ true → 0 < p .0
@@ -40,12 +39,3 @@ reach-yes p t k r e z x = ap By x ∙ sym (answer-fine (refusal (reachCases p t)
 
 pub pitch-good : (p t : Micrometres) (k : ℕ) → k ≡ refusal (reachCases p t) → k ≡ 0 → 0 < p .0
 pitch-good p t k e z = omega (arith, settable-out p t (sym e ∙ z) .pitch-low)
-
--- the bound, as the code squares the reach
-pub bound-is : (s : Settings) (r : Pixels) → r ≡ reachOf (s .pitch) (s .overhang) → boundOf s ≡ (λ (i : ℕ). r .0 * r .0)
-unfolding boundOf square
-bound-is s r e = rw e
-
-pub bound-fits : (s : Settings) (r : Pixels) → Ranged s → r ≡ reachOf (s .pitch) (s .overhang) → r .0 * r .0 ≤ mostBound
-unfolding boundOf square
-bound-fits s r g e = rw e (bound-most s 0 g)

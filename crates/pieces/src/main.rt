@@ -145,12 +145,12 @@ fn three_layers(name: &[u8], part: &[u8]) {
 }
 
 // Plans two layers of two rows of two pixels.
-fn squares(name: &[u8], part: &[u8]) {
+fn squares(name: &[u8], part: &[u8], overhang: u32) {
     let mut support = [0xAAu8; 4];
     let mut rings = [7u16; 4];
     show_plan(
         name,
-        settings(2, 2, 2, 100, 100),
+        settings(2, 2, 2, 100, overhang),
         part,
         &mut support,
         &mut rings,
@@ -165,7 +165,8 @@ fn plans() {
     two_layers(b"e", &[0xE0, 0xFF], 99);
     three_layers(b"f", &[0x00, 0xE0, 0xFF]);
     three_layers(b"g", &[0x01, 0xE0, 0xFF]);
-    squares(b"h", &[0x80, 0x00, 0xC0, 0xC0]);
+    squares(b"h", &[0x80, 0x00, 0xC0, 0xC0], 100);
+    squares(b"h at 150", &[0x80, 0x00, 0xC0, 0xC0], 150);
     two_layers(b"i zero", &[0x00, 0x00], 200);
     two_layers(b"i equal", &[0xE7, 0xE7], 200);
 }
@@ -254,12 +255,12 @@ fn fill_half(s: &mut [u8]) {
 }
 
 // Two layers of 256 by 256 pixels.
-fn wide_layers(name: &[u8], part: &[u8], overhang: u32) {
+fn wide_layers(name: &[u8], part: &[u8], pitch: u32, overhang: u32) {
     let mut support = [0xAAu8; 16384];
     let mut rings = [7u16; 65536];
     show_large(
         name,
-        settings(256, 256, 2, 10, overhang),
+        settings(256, 256, 2, pitch, overhang),
         part,
         &mut support,
         &mut rings,
@@ -269,7 +270,7 @@ fn wide_layers(name: &[u8], part: &[u8], overhang: u32) {
 fn full() {
     let mut part = [0u8; 16384];
     fill(&mut part, 0, 16384);
-    wide_layers(b"full", &part, 320);
+    wide_layers(b"full", &part, 10, 320);
 }
 
 // A full layer over a half, for a reach of 32 and of 0.
@@ -277,8 +278,18 @@ fn half() {
     let mut part = [0u8; 16384];
     fill(&mut part, 8192, 8192);
     fill_half(&mut part);
-    wide_layers(b"half, reach 32", &part, 320);
-    wide_layers(b"half, reach 0", &part, 9);
+    wide_layers(b"half, reach 32", &part, 10, 320);
+    wide_layers(b"half, reach 0", &part, 10, 9);
+}
+
+// A full layer over its first pixel, for the bounds 1,024, 1,087 and 1,088.
+fn disc() {
+    let mut part = [0u8; 16384];
+    fill(&mut part, 8192, 8192);
+    part[0] = 0x80;
+    wide_layers(b"disc, bound 1024", &part, 66, 2112);
+    wide_layers(b"disc, bound 1087", &part, 66, 2176);
+    wide_layers(b"disc, bound 1088", &part, 66, 2177);
 }
 
 // 512 layers of one pixel, of which only the top one is filled.
@@ -314,6 +325,7 @@ fn main() {
     checks();
     full();
     half();
+    disc();
     tower();
     nines();
 }

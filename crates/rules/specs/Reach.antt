@@ -1,4 +1,4 @@
--- Rules 2: pitch, overhang and reach; distances, discs and roots.
+-- Rules 2: pitch and overhang; reach and bound, the two numbers that are made of them; distances, discs and roots.
 use mathlib.Core.Bool.{Bool, _&&_}
 use Prim.Native.Nat.{ℕ, _+_, _-_, _*_, _/_, _%_}
 use lib.Dec.{leb}
@@ -6,13 +6,14 @@ use Rattle.rules.specs.Tools.{largest}
 use Rattle.rules.specs.Images.{within}
 use Rattle.rules.specs.declared.Micrometres.{Micrometres}
 use Rattle.rules.specs.declared.Pixels.{Pixels}
+use Rattle.rules.specs.declared.Bound.{Bound}
 use Rattle.rules.specs.declared.Settings.{Settings}
 
 -- Rule 2.1: a pitch from 10 to 1,000 micrometres, an overhang up to 10,000
 unfoldable pub settable : Micrometres → Micrometres → Bool
 settable p t = within 10 1000 (p .0) && leb (t .0) 10000
 
--- Rule 2.2: the overhang in whole pixels, the only rule from micrometres to pixels
+-- Rule 2.2: the overhang in whole pixels
 unfoldable pub reachOf : Micrometres → Micrometres → Pixels
 reachOf p t = record { 0 = t .0 / p .0 }
 
@@ -23,13 +24,18 @@ mostReach = 32
 unfoldable pub square : ℕ → ℕ
 square x = x * x
 
--- Rule 2.3: the bound on squared distances for pair i, the reach squared for every pair
-unfoldable pub boundOf : Settings → ℕ → ℕ
-boundOf s i = square (reachOf (s .pitch) (s .overhang) .0)
+-- Rule 2.3, "squared pixel distance at most t²/p² rounded down": the squares are divided, so that the bound can be more than the reach squared
+unfoldable pub boundBy : Micrometres → Micrometres → Bound
+boundBy p t = record { 0 = square (t .0) / square (p .0) }
 
--- Rules 2.2 and 2.3: the largest bound, and how many rows of a disc there are at most from its middle on
+-- Rule 2.3: the bound for pair i, the same for every pair
+unfoldable pub boundOf : Settings → ℕ → ℕ
+boundOf s i = boundBy (s .pitch) (s .overhang) .0
+
+-- Rules 2.2 and 2.3: the largest bound ("R stays .. in refusal 3, so the new bound can be 1,088"), and how many rows of a disc there are at most
+-- from its middle on
 abbrev pub mostBound : ℕ
-mostBound = 1024
+mostBound = 1088
 
 abbrev pub mostRows : ℕ
 mostRows = 33

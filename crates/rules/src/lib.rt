@@ -1,6 +1,6 @@
 // The settings of a job and the answers of the calls. The definitions of specs/ say what each answer means.
 
-// A length in micrometres. Only the reach rule turns it into pixels.
+// A length in micrometres. Only the rules of reach and bound turn it into pixels.
 pub struct Micrometres(pub u32);
 
 // A length in pixels: a reach, or how far a disc runs to each side.

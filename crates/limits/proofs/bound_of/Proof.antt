@@ -1,17 +1,16 @@
-use native.Mathlib.Omega.{arith}
-use borrow.Author.Needs.{needs}
-use Rattle.limits.proofs.Settings.{bound-is, bound-fits}
+use mathlib.Core.Path.{sym, ap}
+use Prim.Native.Nat.{ℕ}
+use Rattle.rules.specs.Reach.{boundOf}
+use Rattle.rules.specs.declared.Bound.{Bound}
+use Rattle.laws.specs.Limits.{settable-in}
 use Rattle.limits.proofs.bound_of.Statement.{statement}
 use Rattle.limits.proofs.bound_of.Tie as tie
 
 returns : tie.Need-returns
-returns c =
-    let A = c .before .before .before .before .args in
-    let r = c .before .reach-of in
-    (bound-is (A .s) (r .result) (r .ensures), bound-fits (A .s) (r .result) (c .before .before .before .before .pre) (r .ensures))
+unfolding boundOf
+returns c = (ap (λ (q : Bound). λ (i : ℕ). q .0) (sym (c .bound-by .ensures .0)), c .bound-by .ensures .1)
 
 pub bound-of-spec : {M : Type 1} → statement M
 bound-of-spec =
     tie.close
-    (tie.spec (λ c κs. search needs)
-    (λ c. let b4 = c .before .before .before .before in omega (arith, bound-fits (b4 .args .s) (c .before .reach-of .result) (b4 .pre) (c .before .reach-of .ensures))) returns)
+    (tie.spec (λ c κs. settable-in (c .before .before .args .s) (c .before .before .pre)) returns)

@@ -1,41 +1,15 @@
-use native.Mathlib.Nat.{mul-le-mul}
-use mathlib.Core.Path.{sym, _∙_}
-use Prim.Native.Nat.{_-_, _≤_}
-use Rattle.laws.specs.Discs.{HalvesTo, halves-none, halves-more, halves-all, square-small, some-row}
-use native.Mathlib.Omega.{arith}
+-- The rule of the table, once over all of it: its entries are held against the 33 runs of roots, by computing.
+use Rattle.rules.specs.Tools.{joinedUp}
+use Rattle.laws.specs.Discs.{table-roots}
+use borrow.Author.Needs.{needs}
 use Rattle.roots.proofs.halves.Statement.{statement}
 use Rattle.roots.proofs.halves.Tie as tie
 
-abbrev Inv-loop : tie.InvT-loop
-Inv-loop q out₀ d₀ out d = HalvesTo q d out × (d ≤ 33)
-
-abbrev μ-loop : tie.MeasureT-loop
-μ-loop q out₀ d₀ out d = 33 - d
-
-slice-write-out : tie.Need-slice-write-out Inv-loop μ-loop
-slice-write-out c =
-    let b4 = c .before .before .before .before in
-    omega (arith, c .before .before .loop .inv .0 .long, square-small (b4 .args .q) (c .before .before .loop .d) (b4 .pre .0) (c .before .loop-test .taken))
-
-loop-again : tie.Need-loop-again Inv-loop μ-loop
-loop-again c =
-    let b2 = c .before .before in let b4 = b2 .before .before in (
-      halves-more (b4 .args .q) (b2 .loop .d) (c .half-width .result .0) (b2 .loop .out) (square-small (b4 .args .q) (b2 .loop .d) (b4 .pre .0) (c .before .loop-test .taken))
-          (c .half-width .ensures) (b2 .loop .inv .0),
-      omega (arith, square-small (b4 .args .q) (b2 .loop .d) (b4 .pre .0) (c .before .loop-test .taken)),
-    )
-
-returns : tie.Need-returns Inv-loop μ-loop
-returns c =
-    let b3 = c .before .before .before in
-    halves-all (b3 .args .q) (c .before .loop .d) (c .before .loop .out) (b3 .pre .0) (c .loop-test .left) (some-row (b3 .args .q) (c .before .loop .d) (c .loop-test .left))
-    (c .before .loop .inv .0)
+all-halves-requires : tie.Need-all-halves-requires
+unfolding joinedUp
+all-halves-requires c κs = let b3 = c .before .before .before in (b3 .pre .0, b3 .pre .1, table-roots)
 
 pub halves-spec : {M : Type 1} → statement M
 halves-spec =
     tie.close
-    (tie.spec Inv-loop μ-loop (λ c. (halves-none _ _ (c .before .pre .1), omega arith)) (λ c. omega (arith, mul-le-mul (c .loop .inv .1) (c .loop .inv .1)))
-    (λ c κs. let b3 = c .before .before .before in (square-small _ _ (b3 .pre .0) (c .loop-test .taken), (c .loop-test .taken, b3 .pre .0))) (λ c. omega (arith, c .before .before .loop .inv .1))
-    slice-write-out (λ c. omega (arith, c .before .before .loop .inv .1))
-    (λ c. let b4 = c .before .before .before .before in omega (arith, square-small (b4 .args .q) (c .before .before .loop .d) (b4 .pre .0) (c .before .loop-test .taken))) loop-again
-    (λ c. c .before .loop .inv .0 .long ∙ sym (c .before .before .before .pre .1)) returns)
+    (tie.spec (λ c. search needs) all-halves-requires (λ c. search needs) (λ c. search needs))
