@@ -1,16 +1,18 @@
 /* The benchmark's driver: runs one call on one input, a number of times.
  *
- * usage: bench WHAT INPUT W H N T TIMES
- *        bench clock INPUT W H N T ROUNDS
+ * usage: bench WHAT INPUT W H N T TIMES [GAP..]
+ *        bench clock INPUT W H N T ROUNDS [GAP]
  *
- * WHAT is plan or check (the library), peer-plan or peer-check (the peer), tuned-plan or tuned-check (the peer that is tuned further),
- * floor (what no planner can do without: zeroing the ring planes and copying the part), or compare (all three must agree on every byte).
- * A check judges what was planned before, by the tuned peer, which is not part of the TIMES. INPUT is empty, solid, sphere, lattice, noise,
- * spiral, meander, wide or maze; T is the overhang in pixels, as 10 or 32.99. With TIMES 0 only the input is made, so what a call costs by any
- * measure is the difference.
+ * WHAT is plan, check or clean (the library), peer-plan or peer-check (the peer), tuned-plan, tuned-check or tuned-clean (the peer that is
+ * tuned further), floor (what no planner can do without: zeroing the ring planes and copying the part), or compare (all three must agree on
+ * every byte; at GAPs those that clean). A check judges what was planned before, by the tuned peer, which is not part of the TIMES. INPUT
+ * is empty, solid, sphere, lattice, noise, spiral, meander, wide or maze; T is the overhang in pixels, as 10 or 32.99; GAP is that of
+ * cleaning in whole pixels, 0 where it is not given. With TIMES 0 only the input is made, so what a call costs by any measure is the
+ * difference.
  *
- * clock lets floor, planners and checkers take turns, ROUNDS times, and prints a line for each: WHAT, then the milliseconds of each round
- * by the clock that counts the time that this thread had a processor. A round before these is not counted.
+ * clock lets floor, planners and checkers take turns, ROUNDS times, or with a GAP those that plan and clean, and prints a line for each:
+ * WHAT, then the milliseconds of each round by the clock that counts the time that this thread had a processor. A round before these is not
+ * counted.
  */
 #define _POSIX_C_SOURCE 199309L
 #include "inputs.h"
@@ -26,7 +28,8 @@ enum { PITCH = 100 };
 struct job {
     struct size s;
     uint32_t overhang;
-    uint8_t *part, *support;
+    size_t gap;
+    uint8_t *part, *support, *cleaned;
     uint16_t *rings;
 };
 
@@ -64,6 +67,12 @@ static void check_by(check_call *call, const struct job *j)
                 ring_count(j->s)));
 }
 
+static void clean_by(clean_call *call, const struct job *j)
+{
+    accept(call(j->s.w, j->s.h, j->s.n, PITCH, j->overhang, j->gap, j->part, stack_bytes(j->s), j->support, stack_bytes(j->s), j->rings,
+                ring_count(j->s), j->cleaned, stack_bytes(j->s)));
+}
+
 static void least(const struct job *j)
 {
     memset(j->rings, 0, ring_count(j->s) * sizeof *j->rings);
@@ -81,36 +90,76 @@ static const struct {
     {"tuned-plan", "tuned-check", tuned_plan, tuned_check},
 };
 
-enum { PLANNERS = sizeof planners / sizeof *planners };
+/* Those that clean. */
+static const struct {
+    const char *name;
+    clean_call *clean;
+} cleaners[] = {{"clean", kg_clean}, {"tuned-clean", tuned_clean}};
+
+enum { PLANNERS = sizeof planners / sizeof *planners, CLEANERS = sizeof cleaners / sizeof *cleaners };
 
 /* ---- Comparing ---- */
 
-/* Fills what a planner is to write, so that its memory is there and holds other bytes. */
+/* Fills what a call is to write, so that its memory is there and holds other bytes. */
 static void spoil(const struct job *j)
 {
+    memset(j->cleaned, 0xA5, stack_bytes(j->s));
     memset(j->support, 0xA5, stack_bytes(j->s));
     memset(j->rings, 0xA5, ring_count(j->s) * sizeof *j->rings);
 }
 
-static void compare_with(size_t k, const struct job *j)
+static void lend(struct job *j)
 {
-    struct job other = *j;
-    other.support = room(stack_bytes(j->s), 1);
-    other.rings = room(ring_count(j->s), sizeof *j->rings);
-    spoil(&other);
-    plan_by(planners[k].plan, &other);
-    if (memcmp(j->support, other.support, stack_bytes(j->s)) != 0) die("support differs");
-    if (memcmp(j->rings, other.rings, ring_count(j->s) * sizeof *j->rings) != 0) die("rings differ");
+    j->support = room(stack_bytes(j->s), 1);
+    j->rings = room(ring_count(j->s), sizeof *j->rings);
+    j->cleaned = room(stack_bytes(j->s), 1);
+    spoil(j);
+}
+
+static void same_plans(const struct job *a, const struct job *b)
+{
+    if (memcmp(a->support, b->support, stack_bytes(a->s)) != 0) die("support differs");
+    if (memcmp(a->rings, b->rings, ring_count(a->s) * sizeof *a->rings) != 0) die("rings differ");
+}
+
+static void compare_with(size_t k, const struct job *j, const struct job *other)
+{
+    spoil(other);
+    plan_by(planners[k].plan, other);
+    same_plans(j, other);
     check_by(planners[k].check, j);
-    free(other.support);
-    free(other.rings);
 }
 
 static void compare(const struct job *j)
 {
+    struct job other = *j;
+    lend(&other);
     plan_by(kg_plan, j);
     check_by(kg_check, j);
-    for (size_t k = 1; k < PLANNERS; k++) compare_with(k, j);
+    for (size_t k = 1; k < PLANNERS; k++) compare_with(k, j, &other);
+}
+
+/* Cleaning must plan as planning does, and those that clean must agree. */
+static void compare_cleaners(const struct job *j, const struct job *other)
+{
+    for (size_t k = 0; k < CLEANERS; k++) {
+        spoil(other);
+        clean_by(cleaners[k].clean, other);
+        same_plans(j, other);
+        if (k == 0) memcpy(j->cleaned, other->cleaned, stack_bytes(j->s));
+        if (memcmp(j->cleaned, other->cleaned, stack_bytes(j->s)) != 0) die("cleaned support differs");
+    }
+}
+
+static void compare_cleaned(const struct job *j, const size_t *gaps, size_t count)
+{
+    struct job other = *j;
+    lend(&other);
+    plan_by(kg_plan, j);
+    for (size_t k = 0; k < count; k++) {
+        other.gap = gaps[k];
+        compare_cleaners(j, &other);
+    }
 }
 
 /* ---- The command line ---- */
@@ -145,11 +194,10 @@ static struct job make_job(char **words)
     j.s.h = number(words[2], 1, 256);
     j.s.n = number(words[3], 1, 512);
     j.overhang = overhang(words[4]);
+    j.gap = 0;
     j.part = room(stack_bytes(j.s), 1);
-    j.support = room(stack_bytes(j.s), 1);
-    j.rings = room(ring_count(j.s), sizeof *j.rings);
     input->draw(j.s, j.part);
-    spoil(&j);
+    lend(&j);
     return j;
 }
 
@@ -177,14 +225,21 @@ static int run(const char *what, const struct job *j)
             return 1;
         }
     }
+    for (size_t k = 0; k < CLEANERS; k++)
+        if (strcmp(what, cleaners[k].name) == 0) {
+            clean_by(cleaners[k].clean, j);
+            return 1;
+        }
     return 0;
 }
 
 /* ---- The clock ---- */
 
+/* Whose turns there are without a gap and with one. */
 static const char *const turns[] = {"floor", "plan", "peer-plan", "tuned-plan", "check", "peer-check", "tuned-check"};
+static const char *const cleaning_turns[] = {"plan", "tuned-plan", "clean", "tuned-clean"};
 
-enum { TURNS = sizeof turns / sizeof *turns, MOST_ROUNDS = 1000 };
+enum { TURNS = sizeof turns / sizeof *turns, CLEANING_TURNS = sizeof cleaning_turns / sizeof *cleaning_turns, MOST_ROUNDS = 1000 };
 
 static int is_check(const char *what) { return strstr(what, "check") != NULL; }
 
@@ -199,29 +254,40 @@ static double took(const char *what, const struct job *j)
     return milliseconds() - began;
 }
 
-static void clock_rounds(const struct job *j, size_t rounds)
+static void clock_rounds(const struct job *j, const char *const *whats, size_t count, size_t rounds)
 {
     static double times[TURNS][MOST_ROUNDS + 1];
+    if (rounds > MOST_ROUNDS) die("too many rounds");
     for (size_t round = 0; round <= rounds; round++)
-        for (size_t k = 0; k < TURNS; k++) times[k][round] = took(turns[k], j);
-    for (size_t k = 0; k < TURNS; k++) {
-        printf("%s", turns[k]);
+        for (size_t k = 0; k < count; k++) times[k][round] = took(whats[k], j);
+    for (size_t k = 0; k < count; k++) {
+        printf("%s", whats[k]);
         for (size_t round = 1; round <= rounds; round++) printf(" %.4f", times[k][round]);
         printf("\n");
     }
 }
 
+enum { MOST_GAPS = 33 };
+
 int main(int count, char **words)
 {
-    if (count != 8) die("usage: bench WHAT INPUT W H N R TIMES");
+    size_t gaps[MOST_GAPS], many = 0;
+    if (count < 8 || count > 8 + MOST_GAPS) die("usage: bench WHAT INPUT W H N T TIMES [GAP..]");
     size_t times = number(words[7], 0, 1000000);
     struct job j = make_job(words + 2);
+    while (8 + (int)many < count) {
+        gaps[many] = number(words[8 + many], 0, 32);
+        many++;
+    }
+    if (many > 0) j.gap = gaps[0];
     if (strcmp(words[1], "compare") == 0) {
-        compare(&j);
+        if (many == 0) compare(&j);
+        else compare_cleaned(&j, gaps, many);
         return 0;
     }
     if (strcmp(words[1], "clock") == 0) {
-        clock_rounds(&j, times < MOST_ROUNDS ? times : MOST_ROUNDS);
+        if (many == 0) clock_rounds(&j, turns, TURNS, times);
+        else clock_rounds(&j, cleaning_turns, CLEANING_TURNS, times);
         return 0;
     }
     if (is_check(words[1])) plan_by(tuned_plan, &j);

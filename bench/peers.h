@@ -1,8 +1,8 @@
 /* Planning and judging in plain C, written for speed, for the benchmark to hold the library against: the peer, which is the yardstick,
- * and one that is tuned further.
+ * and one that is tuned further, which also cleans.
  *
- * Both take what kg_plan and kg_check of kitegimlet.h take and answer the same. They keep their scratch between calls, so one call at a
- * time.
+ * They take what kg_plan, kg_check and kg_clean of kitegimlet.h take and answer the same. They keep their scratch between calls, so one
+ * call at a time.
  */
 #ifndef PEERS_H
 #define PEERS_H
@@ -19,7 +19,14 @@ typedef kg_answer check_call(uint64_t w, uint64_t h, uint64_t n, uint32_t pitch,
                              const uint8_t *support, uint64_t support_len,
                              const uint16_t *rings, uint64_t rings_len);
 
+typedef kg_answer clean_call(uint64_t w, uint64_t h, uint64_t n, uint32_t pitch, uint32_t overhang, uint64_t gap,
+                             const uint8_t *part, uint64_t part_len,
+                             uint8_t *support, uint64_t support_len,
+                             uint16_t *rings, uint64_t rings_len,
+                             uint8_t *cleaned, uint64_t cleaned_len);
+
 plan_call peer_plan, tuned_plan;
 check_call peer_check, tuned_check;
+clean_call tuned_clean;
 
 #endif

@@ -1,5 +1,4 @@
-/* Planning and judging in C that was tuned as far as that paid. It shows what is left to gain; no limit is held against it. What makes it
- * faster than the peer:
+/* Planning, judging and cleaning in C that was tuned as far as that paid. What makes it faster than the peer, which does not clean:
  *
  * - Stacks are passed over by bytes in flat loops, which the compiler turns into vector code. A pair of layers with no shadow or no
  *   seed ends there.
@@ -11,6 +10,8 @@
  *   are found row by row, by widening, for the rows that still have shadow pixels without a ring.
  * - The checker tests that every ring lies in the shadow and has one to lean on; small rings are then near for the same reason. Only
  *   where a test fails it looks for the first place, pixel by pixel.
+ * - Cleaning plans first. A layer's support is closed by rows, two at a time as vectors, and only where it has pixels and is not that of
+ *   the layer above; rows with nothing or with a full row nearby are passed over.
  */
 #include "peers.h"
 
@@ -115,6 +116,13 @@ struct stack {
     unsigned surely;              /* rings up to this one are near by themselves */
 };
 
+/* How far a disc runs to each side in a row d rows away. */
+static void find_halves(int *half, int reach, int bound)
+{
+    for (int d = 0; d <= reach; d++)
+        for (half[d] = 0; (half[d] + 1) * (half[d] + 1) + d * d <= bound;) half[d]++;
+}
+
 static int padding_set(const struct stack *s, const uint8_t *stack)
 {
     unsigned pad = (unsigned)(s->bytes * 8 - s->w), found = 0;
@@ -130,8 +138,7 @@ static unsigned settle(struct stack *s, uint64_t w, uint64_t h, uint64_t n, uint
     if (overhang / pitch > REACH) return 3;
     *s = (struct stack){.w = w, .h = h, .n = n, .bytes = (w + 7) / 8, .plane = h * ((w + 7) / 8), .reach = (int)(overhang / pitch),
                         .bound = (int)(overhang * overhang / (pitch * pitch))};
-    for (int d = 0; d <= s->reach; d++)
-        while ((s->half[d] + 1) * (s->half[d] + 1) + d * d <= s->bound) s->half[d]++;
+    find_halves(s->half, s->reach, s->bound);
     while (2 * (s->surely + 1) * (s->surely + 1) <= (unsigned)s->bound) s->surely++;
     return 0;
 }
@@ -461,6 +468,245 @@ kg_answer tuned_plan(uint64_t w, uint64_t h, uint64_t n, uint32_t pitch, uint32_
     if (padding_set(&s, part)) return 7;
     plan(&s, part, support, rings);
     return 0;
+}
+
+/* ---- Closing ---- */
+
+/* A row as two vectors, of words 0 and 1 and of words 2 and 3: left to itself the compiler mixes vectors and words. */
+typedef uint64_t lanes __attribute__((vector_size(16)));
+
+typedef struct {
+    lanes a, b;
+} twins;
+
+INLINE twins twins_or(twins s, twins t) { return (twins){s.a | t.a, s.b | t.b}; }
+
+INLINE twins twins_but(twins s, twins t) { return (twins){s.a & ~t.a, s.b & ~t.b}; }
+
+INLINE int twins_any(twins t)
+{
+    lanes all = t.a | t.b;
+    return (all[0] | all[1]) != 0;
+}
+
+INLINE twins twins_of(row r)
+{
+    twins t;
+    memcpy(&t, &r, sizeof t);
+    return t;
+}
+
+INLINE row row_of(twins t)
+{
+    row r;
+    memcpy(&r, &t, sizeof r);
+    return r;
+}
+
+/* As spread. */
+INLINE twins spread_twins(twins t, int by)
+{
+    int rest = 64 - by;
+    lanes before = {0, t.a[0]}, middle = {t.a[1], t.b[0]}, after = {t.b[1], 0};
+    t.a |= t.a << by | t.a >> by | before << rest | middle >> rest;
+    t.b |= t.b << by | t.b >> by | middle << rest | after >> rest;
+    return t;
+}
+
+/* As widened, by 1 or more. After k columns a pixel at the image's edge is k + 1 columns wide, so a step of that many leaves no gap. */
+INLINE twins widened_twins(twins t, int by)
+{
+    t = spread_twins(t, 1);
+    if (by == 1) return t;
+    if (by == 2) return spread_twins(t, 1);
+    for (int done = 1, step; done < by; done += step) {
+        step = done + 1 < by - done ? done + 1 : by - done;
+        t = spread_twins(t, step);
+    }
+    return t;
+}
+
+/* Of a plane of rows, row y is entry y + REACH; the entries before and after the image are empty. */
+struct closing {
+    const struct stack *s;
+    int reach, half[REACH + 1]; /* of the gap's disc, as in a stack */
+    twins wide;                 /* the columns of the image */
+    twins support[MOST + 2 * REACH], far[MOST + 2 * REACH];
+    uint8_t closed[MOST * sizeof(row)]; /* the closing of the last layer that has one, as bytes */
+};
+
+static void open_closing(struct closing *c, const struct stack *s, int gap)
+{
+    row wide = {{0}};
+    for (size_t x = 0; x < s->w; x++) wide.v[x / 64] |= 1ull << (63 - x % 64);
+    c->s = s;
+    c->reach = gap;
+    find_halves(c->half, gap, gap * gap);
+    c->wide = twins_of(wide);
+    memset(c->support + s->h + REACH, 0, REACH * sizeof(twins));
+    memset(c->far + s->h + REACH, 0, REACH * sizeof(twins));
+}
+
+/* What is far from a plane in two rows, as near_row finds what is near: what is no shifting or joining is done once for both. */
+INLINE void measure_two(const struct closing *c, const twins *at, twins *far)
+{
+    const twins *up = at, *down = at;
+    twins first = at[0], second = at[1];
+    for (int d = 1; d <= c->reach; d++) {
+        int by = c->half[d - 1] - c->half[d];
+        if (by != 0) {
+            first = widened_twins(first, by);
+            second = widened_twins(second, by);
+        }
+        up--;
+        down++;
+        first = twins_or(twins_or(first, up[0]), down[0]);
+        second = twins_or(twins_or(second, up[1]), down[1]);
+    }
+    far[0] = twins_but(c->wide, first);
+    far[1] = twins_but(c->wide, second);
+}
+
+/* Of the rows that were looked at: the last that has a pixel, the last full one and the full one before that. */
+struct seen {
+    int any, full, before, next;
+};
+
+static const struct seen nothing_seen = {-MOST, -MOST, -MOST, 0};
+
+/* Few rows have a full first word, so the others are asked only then. */
+INLINE void look_at(struct seen *t, twins r, twins wide)
+{
+    if (twins_any(r)) t->any = t->next;
+    if (r.a[0] == wide.a[0] && !twins_any(twins_but(wide, r))) {
+        t->before = t->full;
+        t->full = t->next;
+    }
+    t->next++;
+}
+
+/* Whether a full row is within the disc of both row y and row y + 1. The last row that was looked at is within that of y + 1 only. */
+INLINE int full_nearby(const struct seen *t, int y, int reach)
+{
+    return (t->full <= y + reach ? t->full : t->before) > y - reach;
+}
+
+/* What is far from a plane in the rows y and y + 1, where all rows within the disc were looked at: all where these are empty, nothing where
+ * a row within the disc of both is full. */
+static void far_two(const struct closing *c, const struct seen *t, const twins *plane, int y, twins *far)
+{
+    int reach = c->reach;
+    if (t->any < y - reach)
+        far[0] = far[1] = c->wide;
+    else if (full_nearby(t, y, reach))
+        far[0] = far[1] = (twins){{0}, {0}};
+    else
+        measure_two(c, plane + y + REACH, far);
+}
+
+/* The rows to look at before those from y on. */
+INLINE int rows_ahead(const struct closing *c, int y)
+{
+    int h = (int)c->s->h, end = y + 2 + c->reach;
+    return end < h ? end : h;
+}
+
+/* Turns a support into rows and finds what is far from it. */
+static void find_far(struct closing *c, const uint8_t *support)
+{
+    struct seen t = nothing_seen;
+    size_t bytes = c->s->bytes;
+    for (int y = 0; y < (int)c->s->h; y += 2) {
+        for (int end = rows_ahead(c, y); t.next < end;) {
+            twins r = twins_of(row_at(support + (size_t)t.next * bytes, bytes));
+            c->support[t.next + REACH] = r;
+            look_at(&t, r, c->wide);
+        }
+        far_two(c, &t, c->support, y, c->far + y + REACH);
+    }
+    c->far[c->s->h + REACH] = (twins){{0}, {0}};
+}
+
+/* What is far from that, the closing, as bytes. */
+static void find_closed(struct closing *c)
+{
+    struct seen t = nothing_seen;
+    size_t bytes = c->s->bytes;
+    for (int y = 0; y < (int)c->s->h; y += 2) {
+        twins r[2];
+        uint8_t *at = c->closed + (size_t)y * bytes;
+        for (int end = rows_ahead(c, y); t.next < end;) look_at(&t, c->far[t.next + REACH], c->wide);
+        far_two(c, &t, c->far, y, r);
+        put_row(at, turned(row_of(r[0])), bytes);
+        put_row(at + bytes, turned(row_of(r[1])), bytes);
+    }
+}
+
+/* ---- Cleaning ---- */
+
+static int any_pixel(const uint8_t *plane, size_t n)
+{
+    uint8_t all = 0;
+#pragma GCC unroll 8
+    for (size_t k = 0; k < n; k++) all |= plane[k];
+    return all != 0;
+}
+
+/* The cleaned support of a layer without support, where all of the shadow is excused. */
+static void carry_down(const uint8_t *restrict low, const uint8_t *restrict up, const uint8_t *restrict above, uint8_t *restrict cleaned,
+                       size_t n)
+{
+#pragma GCC unroll 8
+    for (size_t k = 0; k < n; k++) cleaned[k] = (uint8_t)(above[k] & ~(low[k] | up[k]));
+}
+
+/* The cleaned support of a layer: what of the shadow is not support is excused. */
+static void join_down(const uint8_t *restrict low, const uint8_t *restrict up, const uint8_t *restrict above, const uint8_t *restrict support,
+                      const uint8_t *restrict closed, uint8_t *restrict cleaned, size_t n)
+{
+#pragma GCC unroll 8
+    for (size_t k = 0; k < n; k++) cleaned[k] = (uint8_t)((above[k] | closed[k]) & ~low[k] & (~up[k] | support[k]));
+}
+
+/* The closing of a layer's support, which is kept for the layers below that have the same. */
+static const uint8_t *closing_of(struct closing *c, const uint8_t *support)
+{
+    if (c->reach == 0) return support;
+    if (memcmp(support, support + c->s->plane, c->s->plane) != 0) {
+        find_far(c, support);
+        find_closed(c);
+    }
+    return c->closed;
+}
+
+static void clean(const struct stack *s, int gap, const uint8_t *part, const uint8_t *support, uint8_t *cleaned)
+{
+    static struct closing c;
+    open_closing(&c, s, gap);
+    memset(cleaned + (s->n - 1) * s->plane, 0, s->plane);
+    for (size_t i = s->n - 1; i-- > 0;) {
+        const uint8_t *low = part + i * s->plane, *up = low + s->plane, *here = support + i * s->plane;
+        uint8_t *below = cleaned + i * s->plane, *above = below + s->plane;
+        if (any_pixel(here, s->plane))
+            join_down(low, up, above, here, closing_of(&c, here), below, s->plane);
+        else
+            carry_down(low, up, above, below, s->plane);
+    }
+}
+
+kg_answer tuned_clean(uint64_t w, uint64_t h, uint64_t n, uint32_t pitch, uint32_t overhang, uint64_t gap,
+                      const uint8_t *part, uint64_t part_len,
+                      uint8_t *support, uint64_t support_len,
+                      uint16_t *rings, uint64_t rings_len,
+                      uint8_t *cleaned, uint64_t cleaned_len)
+{
+    struct stack s;
+    kg_answer answer = settle(&s, w, h, n, pitch, overhang);
+    if (answer == 0 && gap > REACH) answer = 18;
+    if (answer == 0 && part_len == s.n * s.plane && cleaned_len != part_len) answer = 5;
+    if (answer == 0) answer = tuned_plan(w, h, n, pitch, overhang, part, part_len, support, support_len, rings, rings_len);
+    if (answer == 0) clean(&s, (int)gap, part, support, cleaned);
+    return answer;
 }
 
 /* ---- Judging ---- */

@@ -1,8 +1,20 @@
-/* kg: plan, check and report. Each is one story of steps that stops at the first that does not answer DONE. */
+/* kg: plan, clean, check and report. Each is one story of steps that stops at the first that does not answer DONE. */
 #include <inttypes.h>
 #include <stdio.h>
 
 #include "kg.h"
+
+/* The end of plan and of clean: saves a job whose support was made, or tells why it was not. */
+static enum status store(struct job *job, const char *out, enum status made)
+{
+    enum status status = made;
+    if (status == DONE)
+        status = job_save(job, out);
+    if (status == REFUSED)
+        complain(job);
+    job_free(job);
+    return status;
+}
 
 enum status command_plan(const struct arguments *arguments)
 {
@@ -10,12 +22,30 @@ enum status command_plan(const struct arguments *arguments)
     enum status status = job_read(&job, arguments->operand[0]);
     if (status == DONE)
         status = job_plan(&job);
+    return store(&job, arguments->operand[1], status);
+}
+
+/* Which gaps are too large the library says, so only what is no number is misuse. */
+static enum status parse_gap(const char *word, uint64_t *gap)
+{
+    if (word == NULL)
+        return fail("--gap with a number from 0 to 32 is missing; usage: kg clean IN OUT --gap C");
+    if (!parse_number(word, gap))
+        return fail("C behind --gap is a number from 0 to 32, not '%s' (see kg clean --help)", word);
+    return DONE;
+}
+
+enum status command_clean(const struct arguments *arguments)
+{
+    struct job job;
+    uint64_t gap;
+    enum status status = parse_gap(arguments->gap, &gap);
+    if (status != DONE)
+        return status;
+    status = job_read(&job, arguments->operand[0]);
     if (status == DONE)
-        status = job_save(&job, arguments->operand[1]);
-    if (status == REFUSED)
-        complain(&job);
-    job_free(&job);
-    return status;
+        status = job_clean(&job, gap);
+    return store(&job, arguments->operand[1], status);
 }
 
 /* The library's verdict on what is stored. Nothing stored is no verdict, so it gets neither `accepted` nor a number. */

@@ -11,11 +11,18 @@
     "  2  misuse, or a file that cannot be read or written; said in one line on\n" \
     "     standard error\n"
 
+#define HOW_OUT_IS_WRITTEN \
+    "OUT is written only when all went well: first a temporary file beside it, which\n" \
+    "then takes its name. So an old OUT can be read until the new one is whole, stays\n" \
+    "as it is when the job is refused, and may be IN itself. IN may be - for standard\n" \
+    "input, OUT may be - for standard output.\n"
+
 const char help_kg[] =
     "kg plans support for 3D printing from a job's layer images, and judges\n"
     "support that anyone made or painted.\n"
     "\n"
     "  kg plan IN OUT                plan support afresh and store it with the job\n"
+    "  kg clean IN OUT --gap C       the same with thin gaps in the support closed\n"
     "  kg check JOB                  judge the support that is stored\n"
     "  kg report JOB                 count part, support and excused pixels by layer\n"
     "  kg show JOB LAYER [--rings]   one layer as a picture, or its ring numbers\n"
@@ -31,6 +38,7 @@ const char help_kg[] =
     "  kg plan lid.kg planned.kg\n"
     "  kg check planned.kg\n"
     "  kg show planned.kg 3\n"
+    "  kg clean gap.kg cleaned.kg --gap 2\n"
     STATUSES("done; for check: the stored support is accepted");
 
 const char help_plan[] =
@@ -39,10 +47,7 @@ const char help_plan[] =
     "Reads the job IN, plans support and ring numbers afresh, and writes the job\n"
     "with them to OUT. Support and rings that IN holds are not used.\n"
     "\n"
-    "OUT is written only when all went well: first a temporary file beside it, which\n"
-    "then takes its name. So an old OUT can be read until the new one is whole, stays\n"
-    "as it is when the job is refused, and may be IN itself. IN may be - for standard\n"
-    "input, OUT may be - for standard output.\n"
+    HOW_OUT_IS_WRITTEN
     "\n"
     "Behind a link the file itself is replaced, or made where there is none. It keeps\n"
     "its permissions, but no special mode bits; other hard links to it keep the old\n"
@@ -52,6 +57,36 @@ const char help_plan[] =
     "  kg plan lid.kg planned.kg\n"
     "  kg plan lid.kg lid.kg             the plan takes the place of the old one\n"
     "  kg plan - - <lid.kg >planned.kg\n"
+    STATUSES("OUT is written");
+
+const char help_clean[] =
+    "usage: kg clean IN OUT --gap C\n"
+    "\n"
+    "Reads the job IN, plans support and ring numbers afresh as kg plan does, closes\n"
+    "thin gaps in the support, and writes the job with the cleaned support and the\n"
+    "planned rings to OUT. Support and rings that IN holds are not used.\n"
+    "\n"
+    "  --gap C  the radius, in whole pixels, of a disc that is moved about each layer,\n"
+    "           its middle inside the image, wherever it meets no support. What it\n"
+    "           never covers becomes support. So a gap of up to twice C pixels between\n"
+    "           support is closed, and one of up to C pixels between support and the\n"
+    "           border of the image. 0 closes nothing: OUT is what kg plan writes.\n"
+    "           A good first try is twice the overhang, in pixels.\n"
+    "\n"
+    "C must be given, in plain digits. 0 to 32 are taken; every larger number, however\n"
+    "long, is refused with 18; anything else is misuse.\n"
+    "\n"
+    "Part stays part, and nothing is put directly below an excused pixel. What was\n"
+    "added stands on support, on part or on the platform, so kg check accepts it. kg\n"
+    "show tells it apart: + is the plan, * is beyond it.\n"
+    "\n"
+    HOW_OUT_IS_WRITTEN
+    "How links, permissions and devices are met, kg plan --help says.\n"
+    "\n"
+    "examples\n"
+    "  kg clean gap.kg cleaned.kg --gap 2\n"
+    "  kg show cleaned.kg 0\n"
+    "  kg clean --gap 1 gap.kg - | kg check -\n"
     STATUSES("OUT is written");
 
 const char help_check[] =
@@ -105,14 +140,17 @@ const char help_show[] =
     "\n"
     "  #  part of this layer\n"
     "  +  support in this layer\n"
+    "  *  support in this layer beyond the plan: it is stored, and kg plan would not\n"
+    "     set it. kg clean adds such pixels, and people who paint support do. Where the\n"
+    "     layer has some, the first line says how many\n"
     "  o  excused: nothing is here, and the layer above has part here that needs no\n"
     "     support\n"
     "  .  empty\n"
     "\n"
     "So o is no part of this layer: it marks where the layer above runs out over\n"
     "nothing and holds itself, beside + where it needs support. What is part or\n"
-    "support here is shown as that. In a planned job the picture has as many #, +\n"
-    "and o as the line of this layer in kg report.\n"
+    "support here is shown as that. In a planned or cleaned job the picture has as\n"
+    "many #, + and o as the line of this layer in kg report.\n"
     "\n"
     "  --rings  in place of the picture the ring numbers of layers LAYER and LAYER+1\n"
     "           as a table: 1 next to part that stands on part, 2 one step further\n"
@@ -125,4 +163,5 @@ const char help_show[] =
     "examples\n"
     "  kg show lid.kg 3\n"
     "  kg show lid.kg 3 --rings | less -S\n"
+    "  kg clean gap.kg - --gap 2 | kg show - 0\n"
     STATUSES("shown");

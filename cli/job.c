@@ -1,4 +1,4 @@
-/* kg: a job in memory: read, planned, stored.
+/* kg: a job in memory: read, planned, cleaned, stored.
  *
  * Sizes are computed only once kg_read has accepted the file. Then the largest stack has 4,194,304 bytes, the largest ring planes
  * 33,488,896 numbers and the longest job 75,366,426 bytes, so no sum or product here comes near 64 bits. */
@@ -49,6 +49,13 @@ enum status job_take_stored(struct job *job)
     return answered(job, kg_copy_rings(job->file.data, job->file.length, job->rings, job->ring_count));
 }
 
+/* Plans into job->planned and the rings that are lent. */
+static enum status plan_into(struct job *job, uint16_t *rings)
+{
+    return answered(job, kg_plan(job->w, job->h, job->n, job->pitch, job->overhang, job->part, job->stack_length,
+                                 job->planned, job->stack_length, rings, job->ring_count));
+}
+
 enum status job_plan(struct job *job)
 {
     job->planned = room(job->stack_length, sizeof *job->planned);
@@ -56,8 +63,30 @@ enum status job_plan(struct job *job)
     if (job->planned == NULL || job->rings == NULL)
         return UNUSABLE;
     job->support = job->planned;
-    return answered(job, kg_plan(job->w, job->h, job->n, job->pitch, job->overhang, job->part, job->stack_length,
-                                 job->planned, job->stack_length, job->rings, job->ring_count));
+    return plan_into(job, job->rings);
+}
+
+enum status job_clean(struct job *job, uint64_t gap)
+{
+    job->planned = room(job->stack_length, sizeof *job->planned);
+    job->rings = room(job->ring_count, sizeof *job->rings);
+    job->cleaned = room(job->stack_length, sizeof *job->cleaned);
+    if (job->planned == NULL || job->rings == NULL || job->cleaned == NULL)
+        return UNUSABLE;
+    job->support = job->cleaned;
+    return answered(job, kg_clean(job->w, job->h, job->n, job->pitch, job->overhang, gap, job->part, job->stack_length,
+                                  job->planned, job->stack_length, job->rings, job->ring_count, job->cleaned, job->stack_length));
+}
+
+enum status job_plan_beside(struct job *job)
+{
+    enum status status = UNUSABLE;
+    uint16_t *rings = room(job->ring_count, sizeof *rings); /* planned too, and not asked about */
+    job->planned = room(job->stack_length, sizeof *job->planned);
+    if (rings != NULL && job->planned != NULL)
+        status = plan_into(job, rings);
+    free(rings);
+    return status;
 }
 
 enum status job_save(struct job *job, const char *name)
@@ -80,6 +109,7 @@ void job_free(struct job *job)
 {
     free(job->file.data);
     free(job->planned);
+    free(job->cleaned);
     free(job->rings);
 }
 

@@ -1,4 +1,4 @@
-/* kg: plans support, judges it, reports it and shows it, from job files. This file: arguments and main. */
+/* kg: plans support, cleans it, judges it, reports it and shows it, from job files. This file: arguments and main. */
 #include <stdio.h>
 #include <string.h>
 
@@ -18,20 +18,34 @@ struct command {
     const char *usage;
     int operands;
     bool has_rings; /* takes --rings */
+    bool has_gap;   /* takes --gap with a word behind it */
     const char *help;
     enum status (*run)(const struct arguments *arguments);
 };
 
 static const struct command commands[] = {
-    {"plan", "kg plan IN OUT", 2, false, help_plan, command_plan},
-    {"check", "kg check JOB", 1, false, help_check, command_check},
-    {"report", "kg report JOB", 1, false, help_report, command_report},
-    {"show", "kg show JOB LAYER [--rings]", 2, true, help_show, command_show},
+    {"plan", "kg plan IN OUT", 2, false, false, help_plan, command_plan},
+    {"clean", "kg clean IN OUT --gap C", 2, false, true, help_clean, command_clean},
+    {"check", "kg check JOB", 1, false, false, help_check, command_check},
+    {"report", "kg report JOB", 1, false, false, help_report, command_report},
+    {"show", "kg show JOB LAYER [--rings]", 2, true, false, help_show, command_show},
 };
 
 static bool is_help(const char *word)
 {
     return strcmp(word, "--help") == 0 || strcmp(word, "-h") == 0;
+}
+
+bool parse_number(const char *word, uint64_t *number)
+{
+    *number = 0;
+    for (const char *at = word; *at != '\0' || at == word; at++) {
+        if (*at < '0' || *at > '9')
+            return false;
+        if (*number < 1000000)
+            *number = *number * 10 + (uint64_t)(*at - '0');
+    }
+    return true;
 }
 
 static const struct command *find_command(const char *name)
@@ -54,6 +68,13 @@ static enum status take_option(const struct command *command, const char *word, 
     return DONE;
 }
 
+/* Takes the word behind --gap; answers the last word taken, --gap itself where it is the last of all. */
+static char **take_gap(char *words[], struct arguments *arguments)
+{
+    arguments->gap = words[1];
+    return words[1] == NULL ? words : words + 1;
+}
+
 static enum status take_operand(const struct command *command, const char *word, struct arguments *arguments)
 {
     if (arguments->count == command->operands)
@@ -70,6 +91,8 @@ static enum status take_words(const struct command *command, char *words[], stru
     for (; *words != NULL && status == DONE; words++) {
         if (options && strcmp(*words, "--") == 0)
             options = false;
+        else if (options && command->has_gap && strcmp(*words, "--gap") == 0)
+            words = take_gap(words, arguments);
         else if (options && (*words)[0] == '-' && (*words)[1] != '\0')
             status = take_option(command, *words, arguments);
         else
@@ -80,7 +103,7 @@ static enum status take_words(const struct command *command, char *words[], stru
 
 static enum status run_command(const struct command *command, char *words[])
 {
-    struct arguments arguments = {{NULL, NULL}, 0, false, false};
+    struct arguments arguments = {{NULL, NULL}, 0, false, false, NULL};
     enum status status = take_words(command, words, &arguments);
     if (status != DONE)
         return status;

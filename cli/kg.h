@@ -2,9 +2,9 @@
  *
  * kg.c       arguments and main
  * help.c     the texts of --help
- * commands.c plan, check and report
+ * commands.c plan, clean, check and report
  * show.c     show
- * job.c      a job in memory: read, planned, stored
+ * job.c      a job in memory: read, planned, cleaned, stored
  * refusals.c refusal numbers in words
  * files.c    files read whole and saved safely, memory, error messages
  */
@@ -27,14 +27,21 @@ struct arguments {
     int count;
     bool help;
     bool rings;
+    const char *gap; /* the word behind --gap; null where there is none */
 };
 
 enum status command_plan(const struct arguments *arguments);
+enum status command_clean(const struct arguments *arguments);
 enum status command_check(const struct arguments *arguments);
 enum status command_report(const struct arguments *arguments);
 enum status command_show(const struct arguments *arguments);
 
-extern const char help_kg[], help_plan[], help_check[], help_report[], help_show[];
+extern const char help_kg[], help_plan[], help_clean[], help_check[], help_report[], help_show[];
+
+/* kg.c */
+
+/* Whether a word is a number in plain digits, and which. Past 1,000,000 all numbers are alike: every limit here is lower. */
+bool parse_number(const char *word, uint64_t *number);
 
 /* files.c */
 
@@ -76,8 +83,9 @@ struct job {
     const uint8_t *part;
     uint64_t stack_length; /* bytes of the part, and of the support */
 
-    const uint8_t *support; /* stored or planned; null before */
+    const uint8_t *support; /* stored, planned or cleaned; null before */
     uint8_t *planned;
+    uint8_t *cleaned;
     uint16_t *rings;
     uint64_t ring_count;
 };
@@ -90,6 +98,12 @@ enum status job_take_stored(struct job *job);
 
 /* Support and rings planned afresh. */
 enum status job_plan(struct job *job);
+
+/* The same with the gaps of the support closed by a disc of `gap` pixels. */
+enum status job_clean(struct job *job, uint64_t gap);
+
+/* A plan to hold the stored support against: job->planned is made, support and rings stay as stored. */
+enum status job_plan_beside(struct job *job);
 
 /* Saves the job with its support and rings. */
 enum status job_save(struct job *job, const char *name);

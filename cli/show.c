@@ -4,17 +4,9 @@
 
 #include "kg.h"
 
-/* A layer number in plain digits. Numbers past the limits of any job are all alike, so the value stops growing there. */
 static enum status parse_layer(const char *word, uint64_t *layer)
 {
-    *layer = 0;
-    for (const char *at = word; *at != '\0' || at == word; at++) {
-        if (*at < '0' || *at > '9')
-            return fail("LAYER is a number counted from 0, not '%s' (see kg show --help)", word);
-        if (*layer < 1000000)
-            *layer = *layer * 10 + (uint64_t)(*at - '0');
-    }
-    return DONE;
+    return parse_number(word, layer) ? DONE : fail("LAYER is a number counted from 0, not '%s' (see kg show --help)", word);
 }
 
 static enum status find_layer(const struct job *job, const struct arguments *arguments, uint64_t layer)
@@ -31,17 +23,35 @@ static char character(const struct job *job, uint64_t layer, uint64_t row, uint6
     if (job_pixel(job, job_plane(job, job->part, layer), row, column))
         return '#';
     if (job_pixel(job, job_plane(job, job->support, layer), row, column))
-        return '+';
+        return job_pixel(job, job_plane(job, job->planned, layer), row, column) ? '+' : '*';
     if (layer + 1 < job->n && job_rings(job, layer)[row * job->w + column] != 0)
         return 'o';
     return '.';
 }
 
+/* How many pixels of the picture are support beyond the plan. */
+static uint64_t count_beyond(const struct job *job, uint64_t layer)
+{
+    uint64_t count = 0;
+    for (uint64_t row = 0; row < job->h; row++)
+        for (uint64_t column = 0; column < job->w; column++)
+            count += character(job, layer, row, column) == '*';
+    return count;
+}
+
+/* What is shown and by which characters: * is told only where there is one. */
+static void print_head(const struct job *job, uint64_t layer, uint64_t beyond)
+{
+    printf("layer %" PRIu64 " of 0 to %" PRIu64 ", %" PRIu64 " by %" PRIu64 " pixels, support %s", layer, job->n - 1, job->w, job->h,
+           job->stored ? "as stored" : "planned afresh, none is stored");
+    if (beyond > 0)
+        printf(", %" PRIu64 " pixel%s of it beyond the plan", beyond, beyond == 1 ? "" : "s");
+    printf("\n# part, + support, %so excused part of the layer above, . empty\n", beyond > 0 ? "* support beyond the plan, " : "");
+}
+
 static void print_picture(const struct job *job, uint64_t layer)
 {
-    printf("layer %" PRIu64 " of 0 to %" PRIu64 ", %" PRIu64 " by %" PRIu64 " pixels, support %s\n", layer, job->n - 1, job->w,
-           job->h, job->stored ? "as stored" : "planned afresh, none is stored");
-    puts("# part, + support, o excused part of the layer above, . empty");
+    print_head(job, layer, count_beyond(job, layer));
     for (uint64_t row = 0; row < job->h; row++) {
         for (uint64_t column = 0; column < job->w; column++)
             putchar(character(job, layer, row, column));
@@ -73,11 +83,22 @@ static void print_rings(const struct job *job, uint64_t layer)
             printf("%*u%c", digits, (unsigned)rings[row * job->w + column], column + 1 == job->w ? '\n' : ' ');
 }
 
+/* What is stored, for a picture with the plan beside it; or the plan itself where nothing is stored. */
+static enum status take_support(struct job *job, bool picture)
+{
+    if (!job->stored)
+        return job_plan(job);
+    enum status status = job_take_stored(job);
+    if (status == DONE && picture)
+        status = job_plan_beside(job);
+    return status;
+}
+
 static enum status show_layer(struct job *job, const struct arguments *arguments, uint64_t layer)
 {
     enum status status = find_layer(job, arguments, layer);
     if (status == DONE)
-        status = job->stored ? job_take_stored(job) : job_plan(job);
+        status = take_support(job, !arguments->rings);
     if (status != DONE)
         return status;
     if (arguments->rings)

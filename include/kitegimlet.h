@@ -15,7 +15,7 @@
 
 #include <stdint.h>
 
-#define KG_VERSION "0.2"
+#define KG_VERSION "0.3"
 
 #ifdef __cplusplus
 extern "C" {
@@ -46,6 +46,18 @@ kg_answer kg_plan(uint64_t w, uint64_t h, uint64_t n, uint32_t pitch, uint32_t o
                   const uint8_t *part, uint64_t part_len,
                   uint8_t *support, uint64_t support_len,
                   uint16_t *rings, uint64_t rings_len);
+
+/* Plans as kg_plan does, the same bytes of support and rings, and fills `cleaned` with support in which thin gaps are closed: each layer's
+ * support is grown by a disc with a radius of `gap` pixels and shrunk by it again, joined with the cleaned layer above, and has no pixel of
+ * the part and none that is excused. It holds all of the support, and kg_check accepts it with the same rings. A gap of 0 leaves the
+ * support as it is.
+ * Support and cleaned must both have the part's length; all three lent buffers are written whole. Refusals 1 to 3, 18 (a radius over 32), 4 to
+ * 7; a wrong length of cleaned is 5 too. */
+kg_answer kg_clean(uint64_t w, uint64_t h, uint64_t n, uint32_t pitch, uint32_t overhang, uint64_t gap,
+                   const uint8_t *part, uint64_t part_len,
+                   uint8_t *support, uint64_t support_len,
+                   uint16_t *rings, uint64_t rings_len,
+                   uint8_t *cleaned, uint64_t cleaned_len);
 
 /* Judges support that anyone made: 0 where it holds. Refusals 1 to 8; then 9 (a support pixel inside the part), 10 (a ring number that is
  * wrong) and 11 (a pixel that hangs), each with its first place: kg_layer, kg_row, kg_column. */

@@ -1,4 +1,5 @@
-/* The driver: compares every call of the library with the peer on many inputs, from a seed, within a time.
+/* The driver: compares every call of the library with the peer on many inputs, from a seed, within a time, and asks what must hold between
+ * calls.
  *
  * usage: driver [--seconds S] [--seed X] [--case K] [--cases N] [--record FILE] [--patience S]
  *
@@ -17,7 +18,7 @@
 #include <string.h>
 #include <time.h>
 
-enum { STANDARD_SECONDS = 60, FULL_SECONDS = 30, FULL_CASES = 30000, SHRINK_SECONDS = 10, PATIENCE = 20 };
+enum { STANDARD_SECONDS = 60, FULL_SECONDS = 30, FULL_CASES = 37000, SHRINK_SECONDS = 10, PATIENCE = 20 };
 enum { PRINTED_BYTES = 2048 };
 #define STANDARD_SEED 20260701u
 
@@ -48,6 +49,7 @@ static void print_trial(const struct trial *t)
     if (!uses(t->call, JOB_FILE) && t->call != REACH)
         printf(" w %llu h %llu n %llu", (unsigned long long)t->w, (unsigned long long)t->h, (unsigned long long)t->n);
     if (!uses(t->call, JOB_FILE)) printf(" pitch %lu overhang %lu", (unsigned long)t->pitch, (unsigned long)t->overhang);
+    if (t->call == CLEAN) printf(" gap %llu", (unsigned long long)t->gap);
     printf("\n");
     for (int which = 0; which < LENTS; which++)
         if (uses(t->call, which)) print_buffer(t, which);

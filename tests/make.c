@@ -1,6 +1,6 @@
 /* Makes the trial of a seed and a case number: a few of the largest size, then all very small stacks, then all sizes at the edges of
- * words, then whole discs, then random ones, good and spoilt in every way that has a refusal number. No expression throws the dice twice
- * in an order that C leaves open, so a case is the same on every machine.
+ * words, then whole discs, then small planes and holes that are closed, then random ones, good and spoilt in every way that has a refusal
+ * number. No expression throws the dice twice in an order that C leaves open, so a case is the same on every machine.
  */
 #include "make.h"
 
@@ -126,6 +126,13 @@ void write_by_peer(struct dice *d, struct trial *t, int stored)
     free(file);
 }
 
+void lend_filled(struct dice *d, struct trial *t)
+{
+    lend_scribbled(d, t, SUPPORT_STACK, stack_bytes_of(t));
+    lend_scribbled(d, t, RING_PLANES, ring_count_of(t));
+    if (t->call == CLEAN) lend_scribbled(d, t, CLEANED_STACK, stack_bytes_of(t));
+}
+
 /* ---- The reach call ---- */
 
 static void make_reach(struct dice *d, struct trial *t)
@@ -147,8 +154,7 @@ static void make_reach(struct dice *d, struct trial *t)
 static void make_plan(struct dice *d, struct trial *t)
 {
     draw_lent(d, t);
-    lend_scribbled(d, t, SUPPORT_STACK, stack_bytes_of(t));
-    lend_scribbled(d, t, RING_PLANES, ring_count_of(t));
+    lend_filled(d, t);
     if (chance(d, 3)) spoil(d, t);
 }
 
@@ -251,29 +257,29 @@ static void draw_at_edge(struct dice *d, struct trial *t)
         }
 }
 
-/* The number-th of all pairs of such sizes, planned and then judged; the reach goes through 0 to 32, and to 5 where there are many pixels. */
+/* The number-th of all pairs of such sizes, planned, then judged, then cleaned; the reach goes through 0 to 32, and to 5 where there are many
+ * pixels. */
 static int edge_case(struct dice *d, struct trial *t, uint64_t *number)
 {
     static const unsigned edges[] = {1, 7, 8, 9, 63, 64, 65, 127, 128, 255, 256};
-    enum { EDGES = sizeof edges / sizeof *edges, ALL = 2 * EDGES * EDGES };
+    static const enum call calls[] = {PLAN, CHECK, CLEAN};
+    enum { EDGES = sizeof edges / sizeof *edges, ALL = 3 * EDGES * EDGES };
     uint64_t k = *number;
     if (k >= ALL) {
         *number -= ALL;
         return 0;
     }
-    t->call = k < ALL / 2 ? PLAN : CHECK;
+    t->call = calls[k / (EDGES * EDGES)];
     t->w = edges[k % EDGES];
     t->h = edges[k / EDGES % EDGES];
     t->n = 2;
     pick_settings_of(d, t, (uint32_t)(below(d, 33) % (t->w * t->h > 20000 ? 6 : 33)));
     buffer_make(t, PART_STACK, stack_bytes_of(t));
-    draw_at_edge(d, t);
-    if (t->call == CHECK) {
-        plan_by_peer(t);
-        return 1;
-    }
-    lend_scribbled(d, t, SUPPORT_STACK, stack_bytes_of(t));
-    lend_scribbled(d, t, RING_PLANES, ring_count_of(t));
+    t->gap = t->call == CLEAN ? some_gap(d) : 0;
+    if (t->call == CLEAN) draw_gaps(d, t);
+    else draw_at_edge(d, t);
+    if (t->call == CHECK) plan_by_peer(t);
+    else lend_filled(d, t);
     return 1;
 }
 
@@ -301,28 +307,28 @@ static int disc_case(struct dice *d, struct trial *t, uint64_t *number)
     buffer_make(t, PART_STACK, stack_bytes_of(t));
     for (uint64_t p = 0; p < t->w * t->h; p++) set_pixel(t->lent[PART_STACK].bytes, t->w, t->h, 1, p / t->w, p % t->w, 1);
     set_pixel(t->lent[PART_STACK].bytes, t->w, t->h, 0, bottom ? t->h - 1 : 0, right ? t->w - 1 : 0, 1);
-    lend_scribbled(d, t, SUPPORT_STACK, stack_bytes_of(t));
-    lend_scribbled(d, t, RING_PLANES, ring_count_of(t));
+    lend_filled(d, t);
     return 1;
 }
 
 /* ---- A job of the largest size ---- */
 
+/* Part that grows by 8 columns from layer to layer, with a slit one row wide; for cleaning, half of what it grows by needs support. */
 static void make_largest(struct dice *d, struct trial *t, uint64_t which)
 {
-    static const enum call calls[LARGEST_CASES] = {WRITE, READ, COPY_RINGS, PLAN};
+    static const enum call calls[LARGEST_CASES] = {WRITE, READ, COPY_RINGS, PLAN, CLEAN};
     t->call = calls[which];
     t->w = 256;
     t->h = 256;
     t->n = 512;
     t->pitch = 100;
-    t->overhang = 3299;
+    t->overhang = t->call == CLEAN ? 400 : 3299;
+    t->gap = t->call == CLEAN ? 1 : 0;
     buffer_make(t, PART_STACK, stack_bytes_of(t));
     for (uint64_t layer = 0; layer < t->n; layer++)
-        for (uint64_t row = 100; row < 116; row++)
+        for (uint64_t row = 100; row < 116; row += row == 107 ? 2 : 1)
             memset(t->lent[PART_STACK].bytes + (layer * t->h + row) * 32, 0xFF, 1 + layer % 32);
-    lend_scribbled(d, t, SUPPORT_STACK, stack_bytes_of(t));
-    lend_scribbled(d, t, RING_PLANES, ring_count_of(t));
+    lend_filled(d, t);
     if (t->call == WRITE) lend_scribbled(d, t, OUT, job_bytes_of(t, 1) + 1);
     if (t->call == READ) lend_scribbled(d, t, TOLD, KG_TOLD);
     if (t->call == READ || t->call == COPY_RINGS) {
@@ -337,7 +343,7 @@ static void make_largest(struct dice *d, struct trial *t, uint64_t which)
 
 static enum call some_call(struct dice *d)
 {
-    static const enum call calls[] = {REACH, PLAN, PLAN, PLAN, PLAN, CHECK, CHECK, CHECK, CHECK, CHECK, CHECK,
+    static const enum call calls[] = {REACH, PLAN, PLAN, PLAN, PLAN, CLEAN, CLEAN, CLEAN, CLEAN, CHECK, CHECK, CHECK, CHECK, CHECK, CHECK,
                                       READ, READ, PART, SUPPORT, COPY_RINGS, COPY_RINGS, WRITE, WRITE, WRITE};
     return calls[below(d, sizeof calls / sizeof *calls)];
 }
@@ -350,6 +356,7 @@ static void make_random(struct dice *d, struct trial *t)
     switch (t->call) {
     case REACH: make_reach(d, t); break;
     case PLAN: make_plan(d, t); break;
+    case CLEAN: make_clean(d, t); break;
     case CHECK: make_check(d, t); break;
     case READ: make_read(d, t); break;
     case COPY_RINGS: make_copy_rings(d, t); break;
@@ -373,5 +380,6 @@ void make_trial(struct trial *t, uint64_t seed, uint64_t number)
     }
     number -= LARGEST_CASES;
     if (small_plan(t, &number) || small_check(t, &number) || edge_case(&d, t, &number) || disc_case(&d, t, &number)) return;
+    if (small_clean(&d, t, &number) || hole_case(&d, t, &number)) return;
     make_random(&d, t);
 }

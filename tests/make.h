@@ -9,6 +9,7 @@
 /* make.c */
 void pick_settings_of(struct dice *d, struct trial *t, uint32_t reach); /* a pitch and an overhang with the given reach, 0 to 32 */
 void pick_settings(struct dice *d, struct trial *t);
+void lend_filled(struct dice *d, struct trial *t);                      /* lends what planning or cleaning fills, scribbled */
 void draw_lent(struct dice *d, struct trial *t);                        /* lends a part of the trial's size */
 void plan_by_peer(struct trial *t);                                     /* lends support and rings as the peer plans them */
 void write_by_peer(struct dice *d, struct trial *t, int stored);        /* lends a good file of the part, and what it was made of */
@@ -20,7 +21,14 @@ void spoil_reach(struct dice *d, struct trial *t);                    /* 33 or m
 void spoil_length(struct dice *d, struct trial *t, enum lent which);
 void spoil(struct dice *d, struct trial *t);                          /* one to three faults of numbers, lengths, padding */
 
-/* make_check.c, make_file.c: whole trials, whose size and settings are picked */
+/* make_clean.c */
+uint64_t some_gap(struct dice *d);                                    /* 0 to 32 */
+void draw_gaps(struct dice *d, struct trial *t);                      /* onto a lent part: thin gaps in the support under it */
+int small_clean(struct dice *d, struct trial *t, uint64_t *number);   /* the number-th, or 0 and so many less */
+int hole_case(struct dice *d, struct trial *t, uint64_t *number);
+
+/* make_clean.c, make_check.c, make_file.c: whole trials, whose size and settings are picked */
+void make_clean(struct dice *d, struct trial *t);
 void make_check(struct dice *d, struct trial *t);
 void make_file(struct dice *d, struct trial *t);
 void make_read(struct dice *d, struct trial *t);

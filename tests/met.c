@@ -4,20 +4,23 @@
 #include <stdio.h>
 #include <string.h>
 
-enum { NUMBERS = 17, LOOKED_AT = 1000000 };
+enum { NUMBERS = 19, LOOKED_AT = 1000000, CLOSED_AT = 40 };
 
 unsigned long compared[CALLS];
 
 static unsigned long met[CALLS][NUMBERS];
 
 /* The refusal numbers that each call can give, 0 for acceptance; 15 cannot be reached. */
-static const char *const can_give[CALLS] = {"0 2 3 ", "0 1 2 3 4 5 6 7 ", "0 1 2 3 4 5 6 7 8 9 10 11 ", "0 1 2 3 7 8 12 13 14 ", "", "",
-                                            "0 1 2 3 6 7 8 12 13 14 ", "0 1 2 3 4 5 6 7 8 16 "};
+static const char *const can_give[CALLS] = {"0 2 3 ", "0 1 2 3 4 5 6 7 ", "0 1 2 3 4 5 6 7 18 ", "0 1 2 3 4 5 6 7 8 9 10 11 ",
+                                            "0 1 2 3 7 8 12 13 14 ", "", "", "0 1 2 3 6 7 8 12 13 14 ", "0 1 2 3 4 5 6 7 8 16 "};
 
 enum kind {
     REACH_0, REACH_MIDDLE, REACH_32,
     PLAN_ONE_LAYER, PLAN_NOTHING, PLAN_SUPPORT, PLAN_RINGS, PLAN_LONG_RINGS, PLAN_CARRIED, PLAN_STOPPED, PLAN_NOT_JOINED,
     PLAN_WIDEST, PLAN_HIGHEST, PLAN_LAYERS, PLAN_REACH_32, PLAN_BETWEEN, PLAN_BOUND_1088,
+    CLEAN_GAP_0, CLEAN_GAP_1, CLEAN_GAP_2, CLEAN_GAP_10, CLEAN_GAP_31, CLEAN_GAP_32, CLEAN_GAP_33, CLEAN_GAP_HUGE, CLEAN_LENGTH,
+    CLEAN_ONE_LAYER, CLEAN_CLOSED, CLEAN_AT_BORDER, CLEAN_NOTHING, CLEAN_WITHOUT_PART, CLEAN_WITHOUT_EXCUSED, CLEAN_CARRIED, CLEAN_STOPPED,
+    CLEAN_EMPTY, CLEAN_ALONE, CLEAN_WIDEST, CLEAN_HIGHEST, CLEAN_LAYERS,
     CHECK_AS_PLANNED, CHECK_MORE, CHECK_LARGER, CHECK_FEWER, CHECK_ONE_LAYER,
     BAD_NO_SHADOW, BAD_NOT_NEAR, BAD_NO_NEIGHBOUR,
     READ_STORED, READ_NONE, READ_ONE_LAYER, READ_SHORT,
@@ -34,6 +37,13 @@ static const char *const kind_names[KINDS] = {
     "plan: support from above carried down", "plan: support from above stopped by part", "plan: near but not joined",
     "plan: width 256 with support or rings", "plan: height 256 with support or rings", "plan: 512 layers with support or rings",
     "plan: rings with reach 32", "plan: a ring that whole pixels of overhang would not give", "plan: rings with the bound 1,088",
+    "clean: gap 0", "clean: gap 1", "clean: gap 2", "clean: gap 10", "clean: gap 31", "clean: gap 32", "clean: gap 33 refused",
+    "clean: gap 2^64 - 1 refused", "clean: refused by the length of cleaned alone",
+    "clean: one layer", "clean: a gap closed", "clean: closed at the image's edge", "clean: support with nothing to close",
+    "clean: a closed pixel left out for part", "clean: a closed pixel left out for a ring",
+    "clean: closed above and carried down", "clean: closed above and stopped by part",
+    "clean: a layer without support under one with some", "clean: a layer with cleaned support alone",
+    "clean: width 256 with a gap closed", "clean: height 256 with a gap closed", "clean: 512 layers with a gap closed",
     "check: accepted as planned", "check: accepted with more support", "check: accepted with larger rings",
     "check: accepted with support for a ring", "check: accepted with one layer",
     "check: bad ring outside the shadow", "check: bad ring not near", "check: bad ring without a neighbour before it",
@@ -118,6 +128,110 @@ static void note_plan(const struct trial *t, const struct outcome *o)
     meet(PLAN_BOUND_1088, t->overhang * t->overhang / (t->pitch * t->pitch) == 1088 && p.rings);
 }
 
+/* ---- Kinds of cleaning ---- */
+
+/* Whether planned support of the plane is in the disc of the gap about a pixel. */
+static int dilates(const struct trial *t, const struct outcome *o, uint64_t plane, uint64_t row, uint64_t column)
+{
+    for (uint64_t r = 0; r < t->h; r++)
+        for (uint64_t c = 0; c < t->w; c++) {
+            uint64_t dr = r - row, dc = c - column; /* squares are the same modulo 2^64 */
+            if (dr * dr + dc * dc <= t->gap * t->gap && pixel(o->after[SUPPORT_STACK], t->w, t->h, plane, r, c)) return 1;
+        }
+    return 0;
+}
+
+/* Whether closing the planned support of the plane fills a pixel. */
+static int closes(const struct trial *t, const struct outcome *o, uint64_t plane, uint64_t row, uint64_t column)
+{
+    for (uint64_t r = 0; r < t->h; r++)
+        for (uint64_t c = 0; c < t->w; c++) {
+            uint64_t dr = r - row, dc = c - column;
+            if (dr * dr + dc * dc <= t->gap * t->gap && !dilates(t, o, plane, r, c)) return 0;
+        }
+    return 1;
+}
+
+struct cleaned {
+    int support, added, closed, at_border, without_part, without_excused, carried, stopped, empty, alone;
+};
+
+/* A pixel of the pair of layers under and at plane + 1: support and cleaned support here, and above it. */
+static void look_at_cleaned(const struct trial *t, const struct outcome *o, uint64_t plane, uint64_t row, uint64_t column, struct cleaned *p)
+{
+    struct buffer rings;
+    int support = pixel(o->after[SUPPORT_STACK], t->w, t->h, plane, row, column);
+    int here = pixel(o->after[CLEANED_STACK], t->w, t->h, plane, row, column);
+    int above = pixel(o->after[CLEANED_STACK], t->w, t->h, plane + 1, row, column);
+    int added_above = above && !pixel(o->after[SUPPORT_STACK], t->w, t->h, plane + 1, row, column);
+    int closed = here && !support && !above, part = part_at(t, plane, row, column), excused;
+    rings.bytes = o->after[RING_PLANES];
+    excused = ring_at(&rings, (plane * t->h + row) * t->w + column) > 0;
+    p->added |= here && !support;
+    p->closed |= closed;
+    p->at_border |= closed && (row == 0 || column == 0 || row + 1 == t->h || column + 1 == t->w);
+    p->stopped |= added_above && part;
+    if (t->w * t->h > CLOSED_AT) return;
+    if (part && !p->without_part) p->without_part = closes(t, o, plane, row, column);
+    if (excused && !p->without_excused) p->without_excused = closes(t, o, plane, row, column);
+    if (here && !support && added_above && !p->carried) p->carried = !closes(t, o, plane, row, column);
+}
+
+static int has_pixel(const struct trial *t, const uint8_t *stack, uint64_t layer)
+{
+    uint64_t bytes = t->h * row_bytes_of(t->w);
+    for (uint64_t k = layer * bytes; k < (layer + 1) * bytes; k++)
+        if (stack[k] != 0) return 1;
+    return 0;
+}
+
+static void look_at_layer(const struct trial *t, const struct outcome *o, uint64_t plane, struct cleaned *p)
+{
+    int support = has_pixel(t, o->after[SUPPORT_STACK], plane);
+    p->support |= support;
+    p->empty |= !support && has_pixel(t, o->after[SUPPORT_STACK], plane + 1);
+    p->alone |= !support && has_pixel(t, o->after[CLEANED_STACK], plane);
+    for (uint64_t row = 0; row < t->h; row++)
+        for (uint64_t column = 0; column < t->w; column++) look_at_cleaned(t, o, plane, row, column, p);
+}
+
+static void note_gap(const struct trial *t)
+{
+    static const unsigned gaps[] = {0, 1, 2, 10, 31, 32};
+    for (int k = 0; k < 6; k++) meet((enum kind)(CLEAN_GAP_0 + k), t->gap == gaps[k]);
+}
+
+static void note_cleaned(const struct trial *t, const struct outcome *o)
+{
+    struct cleaned p;
+    note_gap(t);
+    if (t->w * t->h * t->n > LOOKED_AT) return;
+    memset(&p, 0, sizeof p);
+    for (uint64_t plane = 0; plane + 1 < t->n; plane++) look_at_layer(t, o, plane, &p);
+    meet(CLEAN_ONE_LAYER, t->n == 1);
+    meet(CLEAN_CLOSED, p.closed);
+    meet(CLEAN_AT_BORDER, p.at_border);
+    meet(CLEAN_NOTHING, t->gap > 0 && p.support && !p.added);
+    meet(CLEAN_WITHOUT_PART, p.without_part);
+    meet(CLEAN_WITHOUT_EXCUSED, p.without_excused);
+    meet(CLEAN_CARRIED, p.carried);
+    meet(CLEAN_STOPPED, p.stopped);
+    meet(CLEAN_EMPTY, p.empty);
+    meet(CLEAN_ALONE, p.alone);
+    meet(CLEAN_WIDEST, t->w == 256 && p.closed);
+    meet(CLEAN_HIGHEST, t->h == 256 && p.closed);
+    meet(CLEAN_LAYERS, t->n == 512 && p.closed);
+}
+
+static void note_clean(const struct trial *t, const struct outcome *o)
+{
+    unsigned number = kg_number(o->answer);
+    meet(CLEAN_GAP_33, number == 18 && t->gap == 33);
+    meet(CLEAN_GAP_HUGE, number == 18 && t->gap == ~(uint64_t)0);
+    meet(CLEAN_LENGTH, number == 5 && t->lent[SUPPORT_STACK].len == stack_bytes_of(t));
+    if (number == 0) note_cleaned(t, o);
+}
+
 /* ---- Kinds of the other calls ---- */
 
 static void note_check(const struct trial *t, uint64_t answer)
@@ -183,6 +297,7 @@ void note(const struct trial *t, const struct outcome *o)
         return;
     }
     met[t->call][number]++;
+    if (t->call == CLEAN) note_clean(t, o);
     if (t->call == CHECK) note_check(t, o->answer);
     if (number != 0) return;
     if (t->call == REACH) note_reach(o->answer);

@@ -1,4 +1,5 @@
-/* The peer's calls: a pixel at a time, near by trying every pixel of the square around, rings by breadth-first search. */
+/* The peer's calls: a pixel at a time, near by trying every pixel of the square around, rings by breadth-first search, closing by the nearest
+ * pixel of each row around. */
 #include "peer.h"
 
 #include <inttypes.h>
@@ -40,6 +41,12 @@ static int filled(const uint8_t *stack, struct size s, uint64_t layer, uint64_t 
 static void fill(uint8_t *stack, struct size s, uint64_t layer, uint64_t row, uint64_t column)
 {
     stack[byte_index(s, layer, row, column)] |= bit_of_column[column % 8];
+}
+
+static void set(uint8_t *stack, struct size s, uint64_t layer, uint64_t row, uint64_t column, int on)
+{
+    stack[byte_index(s, layer, row, column)] &= (uint8_t)~bit_of_column[column % 8];
+    if (on) fill(stack, s, layer, row, column);
 }
 
 static uint64_t ring_index(struct size s, uint64_t plane, uint64_t row, uint64_t column)
@@ -232,6 +239,96 @@ kg_answer peer_plan(uint64_t w, uint64_t h, uint64_t n, uint32_t pitch, uint32_t
     if (rings_len != ring_count(s)) return refused(6);
     if (padding_set(part, s)) return refused(7);
     plan(s, pitch, overhang, part, support, rings);
+    return value(0);
+}
+
+/* ---- Cleaning ---- */
+
+/* How many columns away from a pixel the nearest of its row is that is filled, or is not, as wanted; one more than the gap where none is
+ * so near. */
+static uint64_t columns_away(const uint8_t *stack, struct size s, uint64_t layer, uint64_t row, uint64_t column, int wanted, uint64_t gap)
+{
+    for (uint64_t away = 0; away <= gap; away++) {
+        if (away <= column && filled(stack, s, layer, row, column - away) == wanted) return away;
+        if (column + away < s.w && filled(stack, s, layer, row, column + away) == wanted) return away;
+    }
+    return gap + 1;
+}
+
+static void look_along_rows(const uint8_t *stack, struct size s, uint64_t layer, int wanted, uint64_t gap, uint8_t *away)
+{
+    for (uint64_t row = 0; row < s.h; row++)
+        for (uint64_t column = 0; column < s.w; column++)
+            away[row * s.w + column] = (uint8_t)columns_away(stack, s, layer, row, column, wanted, gap);
+}
+
+/* Whether what was looked for along the rows is in the disc about a pixel: in each row of the image that the disc has, the nearest
+ * decides. */
+static int in_disc(struct size s, const uint8_t *away, uint64_t row, uint64_t column, uint64_t gap)
+{
+    uint64_t first = row < gap ? 0 : row - gap;
+    for (uint64_t r = first; r <= row + gap && r < s.h; r++) {
+        uint64_t dr = r < row ? row - r : r - row, dc = away[r * s.w + column];
+        if (dr * dr + dc * dc <= gap * gap) return 1;
+    }
+    return 0;
+}
+
+/* Dilation: the pixels of the image with a filled pixel in the disc about them. */
+static void dilate(const uint8_t *from, struct size s, uint64_t layer, uint64_t gap, uint8_t *away, uint8_t *to)
+{
+    look_along_rows(from, s, layer, 1, gap, away);
+    for (uint64_t row = 0; row < s.h; row++)
+        for (uint64_t column = 0; column < s.w; column++) set(to, s, layer, row, column, in_disc(s, away, row, column, gap));
+}
+
+/* Erosion: the pixels with every pixel of the image in the disc about them filled, so with none that is not. */
+static void erode(uint8_t *stack, struct size s, uint64_t layer, uint64_t gap, uint8_t *away)
+{
+    look_along_rows(stack, s, layer, 0, gap, away);
+    for (uint64_t row = 0; row < s.h; row++)
+        for (uint64_t column = 0; column < s.w; column++) set(stack, s, layer, row, column, !in_disc(s, away, row, column, gap));
+}
+
+/* F(i) = F(i+1) with the closing of S(i), which stands in its place so far, without the excused pixels, without P(i). */
+static void join_and_cut(struct size s, uint64_t layer, const uint8_t *part, const uint16_t *plane, uint8_t *cleaned)
+{
+    for (uint64_t row = 0; row < s.h; row++)
+        for (uint64_t column = 0; column < s.w; column++) {
+            int joined = filled(cleaned, s, layer, row, column) || filled(cleaned, s, layer + 1, row, column);
+            int excused = plane[row * s.w + column] != 0;
+            set(cleaned, s, layer, row, column, joined && !excused && !filled(part, s, layer, row, column));
+        }
+}
+
+static void clean(struct size s, uint64_t gap, const uint8_t *part, const uint8_t *support, const uint16_t *rings, uint8_t *cleaned)
+{
+    uint8_t *away = room_for(s.w * s.h, sizeof *away);
+    for (uint64_t k = 0; k < stack_bytes(s); k++) cleaned[k] = 0;
+    for (uint64_t above = s.n - 1; above > 0; above--) {
+        dilate(support, s, above - 1, gap, away, cleaned);
+        erode(cleaned, s, above - 1, gap, away);
+        join_and_cut(s, above - 1, part, rings + ring_index(s, above - 1, 0, 0), cleaned);
+    }
+    free(away);
+}
+
+kg_answer peer_clean(uint64_t w, uint64_t h, uint64_t n, uint32_t pitch, uint32_t overhang, uint64_t gap,
+                     const uint8_t *part, uint64_t part_len,
+                     uint8_t *support, uint64_t support_len,
+                     uint16_t *rings, uint64_t rings_len,
+                     uint8_t *cleaned, uint64_t cleaned_len)
+{
+    struct size s = make_size(w, h, n);
+    unsigned number = size_or_setting_refusal(s, pitch, overhang);
+    if (number != 0) return refused(number);
+    if (gap > 32) return refused(18);
+    if (part_len != stack_bytes(s)) return refused(4);
+    if (support_len != stack_bytes(s) || cleaned_len != stack_bytes(s)) return refused(5);
+    if (rings_len != ring_count(s)) return refused(6);
+    if (padding_set(part, s)) return refused(7);
+    plan(s, pitch, overhang, part, support, rings);
+    clean(s, gap, part, support, rings, cleaned);
     return value(0);
 }
 

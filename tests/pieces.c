@@ -7,7 +7,7 @@
 #include <stdlib.h>
 #include <string.h>
 
-enum { MOST = 24 };
+enum { MOST = 25 };
 
 /* Pitch is 100. Answers: support and rings where the call is PLAN; the answer's number and place where it is CHECK. */
 struct piece {
@@ -44,6 +44,37 @@ static const struct piece pieces[] = {
     {"m", CHECK, 8, 1, 2, 200, {0xE0, 0xFF}, {0x27, 0x00}, RINGS_OF_B, 9, 0, 0, 2},
     {"a seed with a ring serves no ring 1", CHECK, 8, 1, 2, 200, {0x07, 0xFF}, {0xE0, 0x00}, {0, 0, 0, 0, 1, 9}, 10, 1, 0, 4},
     {"two rings lean on each other", CHECK, 8, 1, 2, 300, {0xE0, 0xF7}, {0x00}, {0, 0, 0, 1, 0, 1, 2}, 10, 1, 0, 5},
+};
+
+/* Cleaning: part and support as they are planned with pitch 100, and the cleaned support. */
+struct clean_piece {
+    const char *name;
+    uint64_t w, h, n;
+    uint32_t overhang;
+    uint64_t gap;
+    uint8_t part[MOST], support[MOST];
+    uint16_t rings[MOST];
+    uint8_t cleaned[MOST];
+};
+
+static const struct clean_piece clean_pieces[] = {
+    {"one layer", 8, 1, 1, 200, 2, {0xDB}, {0}, {0}, {0}},
+    {"b, gap 2", 8, 1, 2, 200, 2, {0xE0, 0xFF}, {0x07}, RINGS_OF_B, {0x07}},
+    {"two pixels apart, gap 0", 8, 1, 2, 200, 0, {0x00, 0xE7}, {0xE7}, {0}, {0xE7}},
+    {"two pixels apart, gap 1", 8, 1, 2, 200, 1, {0x00, 0xE7}, {0xE7}, {0}, {0xFF}},
+    {"three pixels apart, gap 1", 8, 1, 2, 200, 1, {0x00, 0xC7}, {0xC7}, {0}, {0xC7}},
+    {"three pixels apart, gap 2", 8, 1, 2, 200, 2, {0x00, 0xC7}, {0xC7}, {0}, {0xFF}},
+    {"one pixel off the edge, gap 1", 8, 1, 2, 200, 1, {0x00, 0x02}, {0x02}, {0}, {0x03}},
+    {"two pixels off the edge, gap 1", 8, 1, 2, 200, 1, {0x00, 0x04}, {0x04}, {0}, {0x04}},
+    {"about a post and its rings", 8, 1, 2, 100, 2, {0x10, 0xFF}, {0xC7}, {0, 0, 1, 0, 1}, {0xC7}},
+    {"closed above, stopped by part", 8, 1, 3, 200, 1, {0x18, 0x00, 0xE7}, {0xE7, 0xE7}, {0}, {0xE7, 0xFF}},
+    {"closed above, carried down alone", 8, 1, 3, 200, 1, {0xE7, 0x00, 0xE7}, {0x00, 0xE7}, {0}, {0x18, 0xFF}},
+    {"a hole of one pixel, gap 1", 3, 3, 2, 0, 1, {0, 0, 0, 0xE0, 0xA0, 0xE0}, {0xE0, 0xA0, 0xE0}, {0}, {0xE0, 0xE0, 0xE0}},
+    {"a hole as the disc of 1, gap 1", 5, 5, 2, 0, 1, {0, 0, 0, 0, 0, 0xF8, 0xD8, 0x88, 0xD8, 0xF8}, {0xF8, 0xD8, 0x88, 0xD8, 0xF8}, {0},
+     {0xF8, 0xD8, 0x88, 0xD8, 0xF8}},
+    {"a hole as the disc of 1, gap 2", 5, 5, 2, 0, 2, {0, 0, 0, 0, 0, 0xF8, 0xD8, 0x88, 0xD8, 0xF8}, {0xF8, 0xD8, 0x88, 0xD8, 0xF8}, {0},
+     {0xF8, 0xF8, 0xF8, 0xF8, 0xF8}},
+    {"a corner beside the disc of 1", 2, 2, 2, 0, 1, {0x00, 0x00, 0x80, 0x40}, {0x80, 0x40}, {0}, {0xC0, 0xC0}},
 };
 
 struct reach {
@@ -125,6 +156,32 @@ static void try_piece(const struct piece *p, side *of, const char *who)
            who, p->name);
     expect(holds(&t, &o, SUPPORT_STACK, p->support), who, p->name);
     expect(holds(&t, &o, RING_PLANES, p->rings), who, p->name);
+    free_outcome_of(of, &o);
+    trial_free(&t);
+}
+
+static void try_clean_piece(const struct clean_piece *p, side *of, const char *who)
+{
+    struct trial t;
+    struct outcome o;
+    memset(&t, 0, sizeof t);
+    t.call = CLEAN;
+    t.w = p->w;
+    t.h = p->h;
+    t.n = p->n;
+    t.pitch = 100;
+    t.overhang = p->overhang;
+    t.gap = p->gap;
+    buffer_put(&t, PART_STACK, p->part, stack_bytes_of(&t));
+    buffer_make(&t, SUPPORT_STACK, stack_bytes_of(&t));
+    buffer_make(&t, RING_PLANES, ring_count_of(&t));
+    buffer_make(&t, CLEANED_STACK, stack_bytes_of(&t));
+    memset(t.lent[SUPPORT_STACK].bytes, 0xFF, t.lent[SUPPORT_STACK].held);
+    memset(t.lent[CLEANED_STACK].bytes, 0xFF, t.lent[CLEANED_STACK].held);
+    ask(of, &t, &o);
+    expect(o.signal == 0 && o.answer == 0 && holds(&t, &o, SUPPORT_STACK, p->support) && holds(&t, &o, RING_PLANES, p->rings)
+               && holds(&t, &o, CLEANED_STACK, p->cleaned),
+           who, p->name);
     free_outcome_of(of, &o);
     trial_free(&t);
 }
@@ -225,6 +282,50 @@ static void try_sizes(side *of, const char *who)
     try_size(0, 1, 1, 1, of, who);
     try_size(1, 0, 1, 1, of, who);
     try_size(1, 1, 0, 1, of, who);
+}
+
+/* Cleaning two layers of one row of seven pixels, the rings and stacks so much longer, is done or refused. */
+static void try_cleaning(uint32_t overhang, uint64_t gap, const unsigned longer[CLEANED_STACK + 1], uint8_t part, unsigned number,
+                         side *of, const char *who)
+{
+    struct trial t;
+    struct outcome o;
+    char what[80];
+    memset(&t, 0, sizeof t);
+    t.call = CLEAN;
+    t.w = 7;
+    t.h = 1;
+    t.n = 2;
+    t.pitch = 100;
+    t.overhang = overhang;
+    t.gap = gap;
+    for (int which = PART_STACK; which <= CLEANED_STACK; which++)
+        buffer_make(&t, (enum lent)which, (which == RING_PLANES ? ring_count_of(&t) : stack_bytes_of(&t)) + longer[which]);
+    t.lent[PART_STACK].bytes[1] = part;
+    ask(of, &t, &o);
+    snprintf(what, sizeof what, "cleaning with gap %llu and refusal %u", (unsigned long long)gap, number);
+    expect(o.signal == 0 && o.answer == number, who, what);
+    free_outcome_of(of, &o);
+    trial_free(&t);
+}
+
+static void try_cleanings(side *of, const char *who)
+{
+    static const unsigned right[4] = {0, 0, 0, 0}, all[4] = {1, 1, 1, 1}, not_part[4] = {0, 1, 1, 1}, cleaned[4] = {0, 0, 1, 1};
+    static const unsigned cleaned_alone[4] = {0, 0, 0, 1}, rings[4] = {0, 0, 1, 0};
+    try_cleaning(200, 32, right, 0x02, 0, of, who);
+    try_cleaning(200, 33, right, 0x02, 18, of, who);
+    try_cleaning(200, 256, right, 0x02, 18, of, who);
+    try_cleaning(200, (uint64_t)1 << 32, right, 0x02, 18, of, who);
+    try_cleaning(200, ~(uint64_t)0, right, 0x02, 18, of, who);
+    try_cleaning(3300, 33, all, 0x01, 3, of, who);
+    try_cleaning(200, 33, all, 0x01, 18, of, who);
+    try_cleaning(200, 32, all, 0x01, 4, of, who);
+    try_cleaning(200, 32, not_part, 0x01, 5, of, who);
+    try_cleaning(200, 32, cleaned, 0x01, 5, of, who);
+    try_cleaning(200, 32, cleaned_alone, 0x02, 5, of, who);
+    try_cleaning(200, 32, rings, 0x01, 6, of, who);
+    try_cleaning(200, 32, right, 0x01, 7, of, who);
 }
 
 /* ---- The example file ---- */
@@ -341,9 +442,11 @@ int try_pieces(void)
     static const char *const names[2] = {"library", "peer"};
     for (int k = 0; k < 2; k++) {
         for (size_t j = 0; j < sizeof pieces / sizeof *pieces; j++) try_piece(&pieces[j], sides[k], names[k]);
+        for (size_t j = 0; j < sizeof clean_pieces / sizeof *clean_pieces; j++) try_clean_piece(&clean_pieces[j], sides[k], names[k]);
         try_reaches(sides[k], names[k]);
         try_bounds(sides[k], names[k]);
         try_sizes(sides[k], names[k]);
+        try_cleanings(sides[k], names[k]);
         try_reading(sides[k], names[k]);
         try_damages(sides[k], names[k]);
         try_writing(sides[k], names[k]);

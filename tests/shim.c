@@ -11,6 +11,15 @@ kg_answer kg_plan(uint64_t w, uint64_t h, uint64_t n, uint32_t pitch, uint32_t o
     return peer_plan(w, h, n, pitch, overhang, part, part_len, support, support_len, rings, rings_len);
 }
 
+kg_answer kg_clean(uint64_t w, uint64_t h, uint64_t n, uint32_t pitch, uint32_t overhang, uint64_t gap,
+                   const uint8_t *part, uint64_t part_len,
+                   uint8_t *support, uint64_t support_len,
+                   uint16_t *rings, uint64_t rings_len,
+                   uint8_t *cleaned, uint64_t cleaned_len)
+{
+    return peer_clean(w, h, n, pitch, overhang, gap, part, part_len, support, support_len, rings, rings_len, cleaned, cleaned_len);
+}
+
 kg_answer kg_check(uint64_t w, uint64_t h, uint64_t n, uint32_t pitch, uint32_t overhang,
                    const uint8_t *part, uint64_t part_len,
                    const uint8_t *support, uint64_t support_len,

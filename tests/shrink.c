@@ -109,6 +109,7 @@ static void cut_stacks(struct trial *small, const struct trial *t, struct cut c)
     int stored = t->lent[SUPPORT_STACK].len != 0;
     cut_stack(small, t, c, PART_STACK);
     cut_stack(small, t, c, SUPPORT_STACK);
+    cut_stack(small, t, c, CLEANED_STACK);
     cut_rings(small, t, c);
     if (t->call == WRITE) cut_buffer(small, t, OUT, job_bytes_of(t, stored), job_bytes_of(small, stored), NULL);
 }
@@ -283,6 +284,18 @@ static int plain_settings(struct trial *t)
     return 0;
 }
 
+/* The least gap that still fails. */
+static int plain_gap(struct trial *t)
+{
+    for (uint64_t gap = 0; gap < t->gap && gap <= 33; gap++) {
+        struct trial small;
+        trial_copy(&small, t);
+        small.gap = gap;
+        if (keep(t, &small)) return 1;
+    }
+    return 0;
+}
+
 /* Sizes that are out of range anyway, or stand beside such a one. */
 static int plain_sizes(struct trial *t)
 {
@@ -387,6 +400,7 @@ void shrink(struct trial *t, double seconds)
     while (better && time_left()) {
         better = leave_out_sides(t);
         better |= plain_settings(t);
+        better |= plain_gap(t);
         better |= plain_sizes(t);
         better |= cut_lengths(t);
         better |= clear_contents(t);

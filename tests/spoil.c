@@ -99,10 +99,42 @@ static void spoil_padding(struct dice *d, struct trial *t, enum lent which)
     t->lent[which].bytes[row * bytes + bytes - 1] |= (uint8_t)(1 << below(d, 8 - t->w % 8));
 }
 
+static uint64_t hostile_gap(struct dice *d, uint64_t was)
+{
+    switch (below(d, 8)) {
+    case 0:
+    case 1: return 33;
+    case 2: return 33 + below(d, 1000);
+    case 3: return 256 + was;
+    case 4: return 65536 + was;
+    case 5: return TWO_32 + was;
+    case 6: return ((uint64_t)1 << 63) + was;
+    default: return ~(uint64_t)0;
+    }
+}
+
+/* What only cleaning has. */
+static void spoil_cleaning(struct dice *d, struct trial *t)
+{
+    if (chance(d, 2)) t->gap = hostile_gap(d, t->gap);
+    else spoil_length(d, t, CLEANED_STACK);
+}
+
+static int lends_long(const struct trial *t)
+{
+    for (int which = 0; which < LENTS; which++)
+        if (is_long(&t->lent[which], (enum lent)which)) return 1;
+    return 0;
+}
+
 /* One to three faults of the numbers, lengths and padding of a call on stacks. */
 void spoil(struct dice *d, struct trial *t)
 {
-    for (uint64_t times = between(d, 1, 3); times > 0; times--) {
+    for (uint64_t times = between(d, 1, 3); times > 0 && !lends_long(t); times--) {
+        if (t->call == CLEAN && chance(d, 3)) {
+            spoil_cleaning(d, t);
+            continue;
+        }
         switch (below(d, 13)) {
         case 0:
         case 1: spoil_length(d, t, PART_STACK); break;
@@ -120,8 +152,5 @@ void spoil(struct dice *d, struct trial *t)
             if (chance(d, 2)) spoil_padding(d, t, PART_STACK);
             if (chance(d, 2)) spoil_padding(d, t, SUPPORT_STACK);
         }
-        if (is_long(&t->lent[PART_STACK], PART_STACK) || is_long(&t->lent[SUPPORT_STACK], SUPPORT_STACK)
-            || is_long(&t->lent[RING_PLANES], RING_PLANES))
-            return;
     }
 }

@@ -5,15 +5,16 @@
 #include <stdlib.h>
 #include <string.h>
 
-const char *const call_names[CALLS] = {"reach", "plan", "check", "read", "part", "support", "copy_rings", "write"};
-const char *const lent_names[LENTS] = {"part", "support", "rings", "file", "told", "out"};
-const unsigned widths[LENTS] = {1, 1, 2, 1, 8, 1};
+const char *const call_names[CALLS] = {"reach", "plan", "clean", "check", "read", "part", "support", "copy_rings", "write"};
+const char *const lent_names[LENTS] = {"part", "support", "rings", "cleaned", "file", "told", "out"};
+const unsigned widths[LENTS] = {1, 1, 2, 1, 1, 8, 1};
 
 int uses(enum call call, enum lent which)
 {
     switch (call) {
     case PLAN:
     case CHECK: return which == PART_STACK || which == SUPPORT_STACK || which == RING_PLANES;
+    case CLEAN: return which == PART_STACK || which == SUPPORT_STACK || which == RING_PLANES || which == CLEANED_STACK;
     case READ: return which == JOB_FILE || which == TOLD;
     case PART:
     case SUPPORT: return which == JOB_FILE;
@@ -27,6 +28,7 @@ int writes(enum call call, enum lent which)
 {
     switch (call) {
     case PLAN: return which == SUPPORT_STACK || which == RING_PLANES;
+    case CLEAN: return which == SUPPORT_STACK || which == RING_PLANES || which == CLEANED_STACK;
     case READ: return which == TOLD;
     case COPY_RINGS: return which == RING_PLANES;
     case WRITE: return which == OUT;

@@ -1,8 +1,9 @@
 /* What the files of the driver share: a trial is one call with its numbers and the buffers that it is lent.
  *
  *   draw.c    draws parts
- *   make.c    makes the trial of a seed and a case number, with spoil.c, make_check.c and make_file.c
+ *   make.c    makes the trial of a seed and a case number, with spoil.c, make_clean.c, make_check.c and make_file.c
  *   lend.c    lends the buffers of a trial to the library and to the peer, and watches the memory around them
+ *   facts.c   asks what must hold between calls
  *   shrink.c  makes a failing trial smaller
  *   pieces.c  the bench pieces and limits, with their answers
  *   met.c     counts what was met
@@ -18,8 +19,8 @@
 
 #include "kitegimlet.h"
 
-enum call { REACH, PLAN, CHECK, READ, PART, SUPPORT, COPY_RINGS, WRITE, CALLS };
-enum lent { PART_STACK, SUPPORT_STACK, RING_PLANES, JOB_FILE, TOLD, OUT, LENTS };
+enum call { REACH, PLAN, CLEAN, CHECK, READ, PART, SUPPORT, COPY_RINGS, WRITE, CALLS };
+enum lent { PART_STACK, SUPPORT_STACK, RING_PLANES, CLEANED_STACK, JOB_FILE, TOLD, OUT, LENTS };
 
 extern const char *const call_names[CALLS];
 extern const char *const lent_names[LENTS];
@@ -41,6 +42,7 @@ struct trial {
     enum call call;
     uint64_t w, h, n;
     uint32_t pitch, overhang;
+    uint64_t gap; /* for cleaning; else 0 */
     struct buffer lent[LENTS];
     enum place place;
     unsigned skew;      /* bytes by which byte buffers between guards are off an even address */
@@ -83,7 +85,7 @@ void scribble(struct dice *d, uint8_t *bytes, uint64_t len);
 
 void draw_part(struct dice *d, uint8_t *part, uint64_t w, uint64_t h, uint64_t n); /* onto an empty stack */
 
-enum { LARGEST_CASES = 4 }; /* the first cases have the largest size; they take seconds each */
+enum { LARGEST_CASES = 5 }; /* the first cases have the largest size; they take seconds each */
 
 void make_trial(struct trial *t, uint64_t seed, uint64_t number);
 
@@ -102,7 +104,10 @@ void call_library(const struct trial *t, struct outcome *o);
 void call_peer(const struct trial *t, struct outcome *o);
 void outcome_free(struct outcome *of_peer);
 
-/* Whether library and peer differ, and how. The peer's answer and buffers stay in `peer`, for outcome_free. */
+/* What should hold between an outcome that is right and the library's other calls, and does not; or null. */
+const char *broken_fact(const struct trial *t, const struct outcome *right);
+
+/* Whether library and peer differ or a fact is broken, and how. The peer's answer and buffers stay in `peer`, for outcome_free. */
 enum verdict { SAME, DIFFERENT, ENDLESS };
 
 enum verdict compare(const struct trial *t, struct outcome *peer, char *why, size_t cap);

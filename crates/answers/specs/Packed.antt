@@ -8,6 +8,7 @@ use Rattle.rules.specs.Images.{rowBytes, stackBytes}
 use Rattle.rules.specs.Jobs.{Job, settingsIn, storedIn, layoutOf}
 use Rattle.rules.specs.Calls.{readRefusal}
 use Rattle.rules.specs.declared.Micrometres.{Micrometres}
+use Rattle.rules.specs.declared.Pixels.{Pixels}
 use Rattle.rules.specs.declared.Settings.{Settings}
 use Rattle.rules.specs.declared.Layout.{Layout}
 use Rattle.rules.specs.declared.Reached.{Reached}
@@ -24,6 +25,9 @@ use Rattle.rules.specs.declared.WrittenJob.the-variants.{Length, Refused as Not
 -- the arguments of a call, as the calls of the rules take them
 abbrev pub um : ℕ → Micrometres
 um x = record { 0 = x }
+
+abbrev pub px : ℕ → Pixels
+px x = record { 0 = x }
 
 abbrev pub settingsOf : ℕ → ℕ → ℕ → ℕ → ℕ → Settings
 settingsOf w h n pitch overhang = record { w = w; h = h; n = n; pitch = um pitch; overhang = um overhang }

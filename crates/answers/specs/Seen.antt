@@ -16,10 +16,12 @@ use Rattle.rules.specs.Reach.{reachOf, boundOf}
 use Rattle.rules.specs.Judging.{overlap, badRing, unheld, verdictOf}
 use Rattle.rules.specs.Jobs.{Job, headEnd, partEnd, supportEnd, settingsIn, storedIn, partIn, supportIn, layoutOf, fileLength}
 use Rattle.rules.specs.Calls.{saysReached, saysPlanned, saysJudged, saysRead, saysCopied, saysWritten, reachCases, reachAnswer, settingCases, lengthCases}
+use Rattle.rules.specs.Calls.{cleanCases, cleanRefusal, cleanAnswer}
 use Rattle.rules.specs.Calls.{stackCases, bothCases, planCases, planRefusal, planAnswer, judgeCases, judgeAnswer, sectionCases, readCases, readRefusal}
 use Rattle.rules.specs.Calls.{readAnswer, partAnswer, supportAnswer, copyCases, copyAnswer, writeCases, writeRefusal, writeAnswer}
 use Rattle.rules.specs.Demands.{FirstAt}
 use Rattle.rules.specs.declared.Micrometres.{Micrometres}
+use Rattle.rules.specs.declared.Pixels.{Pixels}
 use Rattle.rules.specs.declared.Settings.{Settings}
 use Rattle.rules.specs.declared.Place.{Place}
 use Rattle.rules.specs.declared.Layout.{Layout}
@@ -118,7 +120,7 @@ stretch-back f at n ha hn =
     let b : long (stretch at n) ≡ n = ap long e ∙ digits-mod at {m = 4294967296} {r = n} hn in
     rw (a, b)
 
--- Reach, plan, write, copy rings ------------------------------------------------------------------------------------------------
+-- Reach, plan, clean, write, copy rings ------------------------------------------------------------------------------------------------
 
 pub reach-seen : (p t : Micrometres) → seesValue (packReached (reachAnswer p t)) ≡ saysReached (reachAnswer p t)
 unfolding reachAnswer reachCases upTo
@@ -138,27 +140,31 @@ write-seen j room = go (refusal (writeCases j room)) refl (at-most 17 (writeCase
     go zero e h = let m = longest-job j (writable-exactly j room .0 e .0) in value-back (fileLength j) (omega arith)
     go (suc x) e h = number-back x h
 
--- these two give a number alone
+-- these three give a number alone
 unfoldable pub seesNumber : ℕ → List ℕ
 seesNumber a = number a ∷ []
 
-small-number : (k : ℕ) → k ≤ 17 → seesNumber k ≡ k ∷ []
+small-number : (k : ℕ) → k ≤ 18 → seesNumber k ≡ k ∷ []
 unfolding seesNumber
 small-number k h = let a : number k ≡ k = omega arith in rw a
 
+done-back : (x : ℕ) → x ≤ 18 → seesNumber (packPlanned (answer x Done NotPlanned)) ≡ saysPlanned (answer x Done NotPlanned)
+done-back zero h = small-number 0 h
+done-back (suc x) h = small-number (suc x) h
+
 pub plan-seen : (s : Settings) (part : List ℕ) (a b : ℕ) → seesNumber (packPlanned (planAnswer s part a b)) ≡ saysPlanned (planAnswer s part a b)
 unfolding planAnswer planRefusal planCases stackCases settingCases reachCases lengthCases upTo
-plan-seen s part a b = go (refusal (planCases s part a b)) (at-most 17 (planCases s part a b) refl)
-  where
-    go : (x : ℕ) → x ≤ 17 → seesNumber (packPlanned (answer x Done NotPlanned)) ≡ saysPlanned (answer x Done NotPlanned)
-    go zero h = small-number 0 h
-    go (suc x) h = small-number (suc x) h
+plan-seen s part a b = done-back (refusal (planCases s part a b)) (at-most 18 (planCases s part a b) refl)
+
+pub clean-seen : (s : Settings) (c : Pixels) (part : List ℕ) (a b d : ℕ) → seesNumber (packPlanned (cleanAnswer s c part a b d)) ≡ saysPlanned (cleanAnswer s c part a b d)
+unfolding cleanAnswer cleanRefusal cleanCases settingCases reachCases upTo
+clean-seen s c part a b d = done-back (refusal (cleanCases s c part a b d)) (at-most 18 (cleanCases s c part a b d) refl)
 
 pub copy-seen : (f : List ℕ) (room : ℕ) → seesNumber (packCopied (copyAnswer f room)) ≡ saysCopied (copyAnswer f room)
 unfolding copyAnswer copyCases readCases sectionCases settingCases reachCases upTo
-copy-seen f room = go (refusal (copyCases f room)) (at-most 17 (copyCases f room) refl)
+copy-seen f room = go (refusal (copyCases f room)) (at-most 18 (copyCases f room) refl)
   where
-    go : (x : ℕ) → x ≤ 17 → seesNumber (packCopied (answer x Copied NotCopied)) ≡ saysCopied (answer x Copied NotCopied)
+    go : (x : ℕ) → x ≤ 18 → seesNumber (packCopied (answer x Copied NotCopied)) ≡ saysCopied (answer x Copied NotCopied)
     go zero h = small-number 0 h
     go (suc x) h = small-number (suc x) h
 

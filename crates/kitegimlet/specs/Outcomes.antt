@@ -5,8 +5,10 @@ use mathlib.Core.List.{List}
 use Prim.Native.Nat.{ℕ}
 use lib.ListN.{length}
 use Rattle.rules.specs.Jobs.{Job}
-use Rattle.rules.specs.Calls.{reachAnswer, planAnswer, planSupport, planRings, judgeAnswer, readRefusal, copyAnswer, copyRings, writeAnswer, writeTo}
-use Rattle.rules.specs.Outcomes.{Reaches, Plans, Judges, Copies, Writes}
+use Rattle.rules.specs.Calls.{reachAnswer, planAnswer, planSupport, planRings, cleanAnswer, cleanSupport, cleanRings, cleanCleaned, judgeAnswer, readRefusal}
+use Rattle.rules.specs.Calls.{copyAnswer, copyRings, writeAnswer, writeTo}
+use Rattle.rules.specs.Outcomes.{Reaches, Plans, Cleans, Judges, Copies, Writes}
+use Rattle.rules.specs.declared.Pixels.{Pixels}
 use Rattle.rules.specs.declared.Settings.{Settings}
 use Rattle.rules.specs.declared.Reached.{Reached}
 use Rattle.rules.specs.declared.Planned.{Planned}
@@ -61,6 +63,24 @@ pub plan-packed : (s t : Settings) (part sup ring : List ℕ) (r : ℕ) (a : Pla
     KgPlans t part sup ring r sup′ ring′
 plan-packed s t part sup ring r a sup′ ring′ same x e =
     let k : KgPlans s part sup ring r sup′ ring′ = record { answer = e ∙ ap packPlanned (x .answer); support = x .support; rings = x .rings } in
+    rw same at k
+
+-- kg_clean: support, rings and cleaned support are lent ------------------------------------------------------------------------
+
+pub record KgCleans (s : Settings) (c : Pixels) (part sup ring clean : List ℕ) (r : ℕ) (sup′ ring′ clean′ : List ℕ) : Type 0 where
+  pub answer : r ≡ packPlanned (cleanAnswer s c part (length sup) (length ring) (length clean))
+  pub support : sup′ ≡ cleanSupport s c part sup ring clean
+  pub rings : ring′ ≡ cleanRings s c part sup ring clean
+  pub cleaned : clean′ ≡ cleanCleaned s c part sup ring clean
+
+pub kg-clean-settled : (s : Settings) (c : Pixels) (part sup ring clean : List ℕ) (r q : ℕ) (a b d a′ b′ d′ : List ℕ) → KgCleans s c part sup ring clean r a b d → KgCleans s c part sup ring clean q a′ b′ d′ → (r ≡ q) × (a ≡ a′) × (b ≡ b′) × (d ≡ d′)
+kg-clean-settled s c part sup ring clean r q a b d a′ b′ d′ x y =
+    (x .answer ∙ sym (y .answer), x .support ∙ sym (y .support), x .rings ∙ sym (y .rings), x .cleaned ∙ sym (y .cleaned))
+
+pub clean-packed : (s t : Settings) (c : Pixels) (part sup ring clean : List ℕ) (r : ℕ) (a : Planned) (sup′ ring′ clean′ : List ℕ) → s ≡ t → Cleans s c part sup ring clean a sup′ ring′ clean′ →
+    r ≡ packPlanned a → KgCleans t c part sup ring clean r sup′ ring′ clean′
+clean-packed s t c part sup ring clean r a sup′ ring′ clean′ same x e =
+    let k : KgCleans s c part sup ring clean r sup′ ring′ clean′ = record { answer = e ∙ ap packPlanned (x .answer); support = x .support; rings = x .rings; cleaned = x .cleaned } in
     rw same at k
 
 -- kg_read: room for what is told is lent ----------------------------------------------------------------------------------------

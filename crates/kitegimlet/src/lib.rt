@@ -1,5 +1,6 @@
 // The public calls, for programs in C and in other languages: include/kitegimlet.h says how each is called. A number is passed as itself,
 // a buffer as a pointer and its number of elements. Each call takes every input; its answer is packed into one number.
+use clean::clean;
 use job::copy_rings;
 use job::read;
 use job::write;
@@ -7,9 +8,10 @@ use judge::judge;
 use limits::reach;
 use plan::plan;
 use rules::Micrometres;
+use rules::Pixels;
 use rules::ReadJob;
-ghost use Rattle.answers.specs.Packed.{settingsOf, jobOf};
-ghost use Rattle.kitegimlet.specs.Outcomes.{KgReaches, KgPlans, KgJudges, KgReads, KgCopies, KgWrites, KgHandsPart, KgHandsSupport};
+ghost use Rattle.answers.specs.Packed.{settingsOf, px, jobOf};
+ghost use Rattle.kitegimlet.specs.Outcomes.{KgReaches, KgPlans, KgCleans, KgJudges, KgReads, KgCopies, KgWrites, KgHandsPart, KgHandsSupport};
 
 // The reach of an overhang.
 #[no_mangle]
@@ -35,6 +37,26 @@ pub extern "C" fn kg_plan(
 {
     let s = answers::settings(w, h, n, pitch, overhang);
     answers::pack_planned(plan(s, part, support, rings))
+}
+
+// Plans support and rings, and cleans the support.
+#[no_mangle]
+pub extern "C" fn kg_clean(
+    w: usize,
+    h: usize,
+    n: usize,
+    pitch: u32,
+    overhang: u32,
+    gap: usize,
+    part: &[u8],
+    support: &mut [u8],
+    rings: &mut [u16],
+    cleaned: &mut [u8],
+) -> usize
+    ensures { λ r. ⌜ KgCleans (settingsOf w h n pitch overhang) (px gap) (now (part .entry)) (now (support .entry)) (now (rings .entry)) (now (cleaned .entry)) r (now (support .exit)) (now (rings .exit)) (now (cleaned .exit)) ⌝ }
+{
+    let s = answers::settings(w, h, n, pitch, overhang);
+    answers::pack_planned(clean(s, Pixels(gap), part, support, rings, cleaned))
 }
 
 // Judges support that anyone made.

@@ -16,10 +16,11 @@ use Rattle.rules.specs.Reach.{reachOf}
 use Rattle.rules.specs.Judging.{overlap, badRing, unheld, firstIn, placeOf, tell, verdict}
 use Rattle.rules.specs.Jobs.{Job, headEnd, partEnd, supportEnd, settingsIn, storedIn, partIn, layoutOf, fileLength}
 use Rattle.rules.specs.Calls.{saysReached, saysPlanned, saysSettings, saysRead, saysCopied, saysWritten, reachCases, reachAnswer, planCases, planRefusal}
-use Rattle.rules.specs.Calls.{planAnswer, readCases, readRefusal, readAnswer, copyCases, copyAnswer, writeCases, writeRefusal, writeAnswer}
+use Rattle.rules.specs.Calls.{cleanCases, cleanRefusal, cleanAnswer, planAnswer, readCases, readRefusal, readAnswer, copyCases, copyAnswer, writeCases, writeRefusal, writeAnswer}
 use Rattle.rules.specs.Report.{reportCases, reportOf, planLines, refusedLine}
 use Rattle.rules.specs.Demands.{Given, Earlier, sooner-layer, sooner-row, sooner-column, FirstAt}
 use Rattle.rules.specs.declared.Micrometres.{Micrometres}
+use Rattle.rules.specs.declared.Pixels.{Pixels}
 use Rattle.rules.specs.declared.Settings.{Settings}
 use Rattle.rules.specs.declared.Place.{Place}
 use Rattle.rules.specs.declared.Judged.{Judged}
@@ -58,6 +59,10 @@ reach-refuses p t k = says-exactly saysReached (reachCases p t) (By (reachOf p t
 pub plan-refuses : (s : Settings) (part : List ℕ) (a b k : ℕ) → (saysPlanned (planAnswer s part a b) ≡ suc k ∷ []) ↔ Given (suc k) (planCases s part a b)
 unfolding planAnswer planRefusal
 plan-refuses s part a b k = says-exactly saysPlanned (planCases s part a b) Done NotPlanned k _ refl (λ j. refl)
+
+pub clean-refuses : (s : Settings) (c : Pixels) (part : List ℕ) (x y z k : ℕ) → (saysPlanned (cleanAnswer s c part x y z) ≡ suc k ∷ []) ↔ Given (suc k) (cleanCases s c part x y z)
+unfolding cleanAnswer cleanRefusal
+clean-refuses s c part x y z k = says-exactly saysPlanned (cleanCases s c part x y z) Done NotPlanned k _ refl (λ j. refl)
 
 pub read-refuses : (f : List ℕ) (k : ℕ) → (saysRead (readAnswer f) ≡ suc k ∷ []) ↔ Given (suc k) (readCases f)
 unfolding readAnswer readRefusal

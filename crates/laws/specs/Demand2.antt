@@ -46,7 +46,7 @@ module _ (w h n : ℕ) (q : ℕ → ℕ) (part : List ℕ) where
   abbrev pub plannedPixel : ℕ → Plane
   plannedPixel = pixel w h (plannedBytes w h n q part)
 
-  planned-pixel : (i p : ℕ) → i < n → p < h * w → plannedPixel i p ≡ planned n (pixel w h part) empty (ringsOf w h n q (pixel w h part)) i p
+  pub planned-pixel : (i p : ℕ) → i < n → p < h * w → plannedPixel i p ≡ planned n (pixel w h part) empty (ringsOf w h n q (pixel w h part)) i p
   unfolding plannedBytes plannedRings
   planned-pixel i p li lp = pixel-bytes w h n (planned n (pixel w h part) empty (ringsOf w h n q (pixel w h part))) i p li lp
 

@@ -125,27 +125,31 @@ module _ (s : Settings) (part sup : List ℕ) where
         )),
   )
 
--- "The planner's own result is accepted"
-pub plan-accepted : (s : Settings) (part : List ℕ) (a b : ℕ) → planRefusal s part a b ≡ 0 →
-    saysJudged (judgeAnswer s part (plannedBytes (s .w) (s .h) (s .n) (boundOf s) part) (plannedRings (s .w) (s .h) (s .n) (boundOf s) part)) ≡ 0 ∷ []
+-- bytes of a part that planning takes, of the support's length and without padding, are accepted with the planner's rings where the verdict is to accept
+pub accepted-as : (s : Settings) (part : List ℕ) (a b : ℕ) → planRefusal s part a b ≡ 0 → (sup : List ℕ) → length sup ≡ s .n * s .h * rowBytes (s .w) →
+    (0 < s .w → paddingSet (s .w) (s .n * s .h) sup ≡ false) → verdictOf (s .w) (s .h) (s .n) (boundOf s) part sup (plannedRings (s .w) (s .h) (s .n) (boundOf s) part) ≡ Accepted →
+    saysJudged (judgeAnswer s part sup (plannedRings (s .w) (s .h) (s .n) (boundOf s) part)) ≡ 0 ∷ []
 unfolding rowsOf stackBytes ringsIn
-plan-accepted s part a b e =
+accepted-as s part a b e sup long clear accepted =
     let v = plan-exactly s part a b .0 e in
-    accepted-is s part (plannedBytes (s .w) (s .h) (s .n) (boundOf s) part) (plannedRings (s .w) (s .h) (s .n) (boundOf s) part) .1 (
+    accepted-is s part sup (plannedRings (s .w) (s .h) (s .n) (boundOf s) part) .1 (
       record {
         stack = record {
           settings = v .settings;
-          lengths = record {
-            part-long = v .lengths .part-long;
-            support-long = plannedBytes-length (s .w) (s .h) (s .n) (boundOf s) part;
-            ring-count = plannedRings-length (s .w) (s .h) (s .n) (boundOf s) part;
-          };
+          lengths = record { part-long = v .lengths .part-long; support-long = long; ring-count = plannedRings-length (s .w) (s .h) (s .n) (boundOf s) part };
           part-clear = v .part-clear;
         };
-        support-clear = plannedBytes-clear (s .w) (s .h) (s .n) (boundOf s) part (small s (v .settings) .0);
+        support-clear = clear (small s (v .settings) .0);
       },
-      plannedBytes-accepted (s .w) (s .h) (s .n) (boundOf s) part,
+      accepted,
     )
+
+-- "The planner's own result is accepted"
+pub plan-accepted : (s : Settings) (part : List ℕ) (a b : ℕ) → planRefusal s part a b ≡ 0 →
+    saysJudged (judgeAnswer s part (plannedBytes (s .w) (s .h) (s .n) (boundOf s) part) (plannedRings (s .w) (s .h) (s .n) (boundOf s) part)) ≡ 0 ∷ []
+plan-accepted s part a b e =
+    accepted-as s part a b e (plannedBytes (s .w) (s .h) (s .n) (boundOf s) part) (plannedBytes-length (s .w) (s .h) (s .n) (boundOf s) part)
+    (plannedBytes-clear (s .w) (s .h) (s .n) (boundOf s) part) (plannedBytes-accepted (s .w) (s .h) (s .n) (boundOf s) part)
 
 -- the same of the two calls by their contracts: where planning says 0, whatever the lent memory held, checking what it left says 0
 pub plan-left-accepted : (s : Settings) (part sup ring : List ℕ) (r : Planned) (sup′ ring′ : List ℕ) (v : Judged) →

@@ -10,10 +10,12 @@ use Rattle.rules.specs.Images.{Rings, within, sized, rowBytes, bitAt, pixel, ro
 use Rattle.rules.specs.Reach.{settable, reachOf, square, boundBy, boundOf, apart, distance², root, halfWidth}
 use Rattle.rules.specs.Planning.{shadow, near, seeds, reached, touch, source, touching, fits, grow, grown, ringPlane, rings, excused, supportUnder, topOf}
 use Rattle.rules.specs.Planning.{planned, empty, plannedRings, plannedBytes, dilated, swallowed, growingSwallow, regionSubtraction}
+use Rattle.rules.specs.Cleaning.{discOf, eroded, closed, cleanedUnder, cleaned, cleanedBytes, regionSubtractionFDM}
 use Rattle.rules.specs.Judging.{overlap, badRing, unheld, firstIn, placeOf, tell, verdict, verdictOf}
 use Rattle.rules.specs.Jobs.{Job, be16, be32, put16, put32, get16s, put16s, headEnd, partEnd, supportCount, supportEnd, ringCount, jobEnd, settingsIn, storedIn}
 use Rattle.rules.specs.Jobs.{partIn, supportIn, ringsStored, layoutOf, storedRows, fileOf, fileLength}
 use Rattle.rules.specs.Calls.{saysPlanned, saysJudged, saysRead, saysCopied, saysWritten, reachCases, settingCases, lengthCases, bothCases, stackCases}
+use Rattle.rules.specs.Calls.{cleanCases, cleanRefusal, cleanAnswer, cleanCleaned}
 use Rattle.rules.specs.Calls.{planCases, planRefusal, planAnswer, planSupport, planRings, judgeCases, judgeAnswer, sectionCases, readCases, readRefusal}
 use Rattle.rules.specs.Calls.{readAnswer, partAnswer, supportAnswer, copyCases, copyAnswer, copyRings, writeCases, writeRefusal, writeAnswer}
 use Rattle.rules.specs.Report.{digits, decimal, spaced, refusedLine, jobLine, filled, excusedAbove, layerLine, planLines, reportCases, reportOf}
@@ -116,6 +118,92 @@ pub plan-numbers :
 unfolding some within sized rowBytes rowsOf stackBytes paddingSet ringsIn settable reachOf reachCases settingCases lengthCases planCases stackCases planRefusal
     planAnswer settings plan-says
 plan-numbers = refl
+
+-- Cleaning ---------------------------------------------------------------------------------------------------------------
+
+-- what cleaning by c leaves as cleaned support in memory that held nothing
+pub cleans : Settings → ℕ → List ℕ → List ℕ
+cleans s c part =
+    let sup : List ℕ = each 0 (stackBytes s) (λ x. 0) in
+    cleanCleaned s (record { 0 = c }) part sup (each 0 (ringsIn s) (λ x. 0)) sup
+
+-- pieces n to s of docs/RULES.md: a gap of two pixels, of three with c 1 and 2, pixels beside the image's border, and one where part and an excused
+-- pixel stand in the gap, with c 2 and 0
+pub clean-pieces :
+    cleans (settings 8 1 2 100 100) 1 (0x00 ∷ 0xE7 ∷ [])
+    ∷ cleans (settings 8 1 2 100 100) 1 (0x00 ∷ 0xC7 ∷ [])
+    ∷ cleans (settings 8 1 2 100 100) 2 (0x00 ∷ 0xC7 ∷ [])
+    ∷ cleans (settings 8 1 2 100 100) 1 (0x00 ∷ 0x7E ∷ [])
+    ∷ cleans (settings 8 1 2 100 100) 2 (0x10 ∷ 0xF7 ∷ [])
+    ∷ cleans (settings 8 1 2 100 100) 0 (0x10 ∷ 0xF7 ∷ [])
+    ∷ []
+    ≡ (0xFF ∷ 0x00 ∷ []) ∷ (0xC7 ∷ 0x00 ∷ []) ∷ (0xFF ∷ 0x00 ∷ []) ∷ (0xFF ∷ 0x00 ∷ []) ∷ (0xCF ∷ 0x00 ∷ []) ∷ (0xC7 ∷ 0x00 ∷ []) ∷ []
+unfolding bit some each joinedUp within sized rowBytes bitAt pixel rowsOf stackBytes paddingSet byteOf bytesOf ringsIn ringAt settable reachOf square boundBy boundOf
+    apart distance² shadow near seeds reached touch source touching fits grow grown ringPlane rings excused supportUnder topOf planned empty plannedRings
+    discOf eroded closed cleanedUnder cleaned cleanedBytes reachCases settingCases cleanCases cleanRefusal cleanCleaned settings cleans
+clean-pieces = refl
+
+-- part in the gap stays out, and so do excused pixels beside a seed; what the layer above closed goes down until it meets part
+pub cleans-around :
+    cleans (settings 8 1 2 100 200) 1 (0x10 ∷ 0xE7 ∷ [])
+    ∷ cleans (settings 8 1 2 100 100) 2 (0x08 ∷ 0xFF ∷ [])
+    ∷ cleans (settings 8 1 3 100 200) 1 (0x07 ∷ 0x00 ∷ 0xE7 ∷ [])
+    ∷ []
+    ≡ (0xEF ∷ 0x00 ∷ []) ∷ (0xE3 ∷ 0x00 ∷ []) ∷ (0xF8 ∷ 0xFF ∷ 0x00 ∷ []) ∷ []
+unfolding bit some each joinedUp within sized rowBytes bitAt pixel rowsOf stackBytes paddingSet byteOf bytesOf ringsIn ringAt settable reachOf square boundBy boundOf
+    apart distance² shadow near seeds reached touch source touching fits grow grown ringPlane rings excused supportUnder topOf planned empty plannedRings
+    discOf eroded closed cleanedUnder cleaned cleanedBytes reachCases settingCases cleanCases cleanRefusal cleanCleaned settings cleans
+cleans-around = refl
+
+-- a frame about three by three pixels: c 1 closes the corners, for its disc has no corners itself, and c 2 all
+pub cleans-frame : map (λ c. take 5 (cleans (settings 5 5 2 100 200) c (0x00 ∷ 0x00 ∷ 0x00 ∷ 0x00 ∷ 0x00 ∷ 0xF8 ∷ 0x88 ∷ 0x88 ∷ 0x88 ∷ 0xF8 ∷ []))) (1 ∷ 2 ∷ [])
+    ≡ (0xF8 ∷ 0xD8 ∷ 0x88 ∷ 0xD8 ∷ 0xF8 ∷ []) ∷ (0xF8 ∷ 0xF8 ∷ 0xF8 ∷ 0xF8 ∷ 0xF8 ∷ []) ∷ []
+unfolding bit some each joinedUp within sized rowBytes bitAt pixel rowsOf stackBytes paddingSet byteOf bytesOf ringsIn ringAt settable reachOf square boundBy boundOf
+    apart distance² shadow near seeds reached touch source touching fits grow grown ringPlane rings excused supportUnder topOf planned empty plannedRings
+    discOf eroded closed cleanedUnder cleaned cleanedBytes reachCases settingCases cleanCases cleanRefusal cleanCleaned settings cleans
+cleans-frame = refl
+
+-- the disc of c 2 has the squared distances up to 4: in a frame about five by five pixels it leaves out what lies so near the middle. And c 3 closes a gap
+-- of six pixels, but none of seven
+pub closes-discs :
+    bytesOf 7 7 1 (λ i. closed 7 7 (discOf (record { 0 = 2 }) .0) (pixel 7 7 (0xFE ∷ 0x82 ∷ 0x82 ∷ 0x82 ∷ 0x82 ∷ 0x82 ∷ 0xFE ∷ []) i))
+    ∷ cleans (settings 8 1 2 100 100) 3 (0x00 ∷ 0x81 ∷ [])
+    ∷ cleans (settings 9 1 2 100 100) 3 (0x00 ∷ 0x00 ∷ 0x80 ∷ 0x80 ∷ [])
+    ∷ []
+    ≡ (0xFE ∷ 0xEE ∷ 0xC6 ∷ 0x82 ∷ 0xC6 ∷ 0xEE ∷ 0xFE ∷ []) ∷ (0xFF ∷ 0x00 ∷ []) ∷ (0x80 ∷ 0x80 ∷ 0x00 ∷ 0x00 ∷ []) ∷ []
+unfolding bit some each joinedUp within sized rowBytes bitAt pixel rowsOf stackBytes paddingSet byteOf bytesOf ringsIn ringAt settable reachOf square boundBy boundOf
+    apart distance² shadow near seeds reached touch source touching fits grow grown ringPlane rings excused supportUnder topOf planned empty plannedRings
+    discOf eroded closed cleanedUnder cleaned cleanedBytes reachCases settingCases cleanCases cleanRefusal cleanCleaned settings cleans
+closes-discs = refl
+
+-- Algorithm 3 of the chapter, by itself: the lower layer of piece r, and that of piece n with cleaned support above
+pub algorithm-3 :
+    each 0 8 (regionSubtractionFDM 8 1 1 4 (bitAt 0x10) (bitAt 0xF7) (λ p. false) (λ p. false))
+    ∷ each 0 8 (regionSubtractionFDM 8 1 1 0 (bitAt 0x00) (bitAt 0xE7) (λ p. false) (bitAt 0x10))
+    ∷ []
+    ≡ each 0 8 (bitAt 0xCF) ∷ each 0 8 (bitAt 0xF7) ∷ []
+unfolding some each bitAt square apart distance² shadow near touch touching dilated swallowed growingSwallow regionSubtraction eroded closed regionSubtractionFDM
+algorithm-3 = refl
+
+pub clean-says : Settings → ℕ → List ℕ → ℕ → ℕ → ℕ → List ℕ
+clean-says s c part a b d = saysPlanned (cleanAnswer s (record { 0 = c }) part a b d)
+
+-- each number with all that comes after it wrong as well where that can be, 5 by either length, and 0 with the largest c
+pub clean-numbers :
+    clean-says (settings 257 0 0 9 10001) 33 (1 ∷ []) 9 9 9
+    ∷ clean-says (settings 7 1 2 9 10001) 33 (1 ∷ []) 9 9 9
+    ∷ clean-says (settings 7 1 2 10 330) 33 (1 ∷ []) 9 9 9
+    ∷ clean-says (settings 7 1 2 10 320) 33 (1 ∷ []) 9 9 9
+    ∷ clean-says (settings 7 1 2 10 320) 32 (1 ∷ []) 9 9 9
+    ∷ clean-says (settings 7 1 2 10 320) 32 (1 ∷ 1 ∷ []) 3 9 2
+    ∷ clean-says (settings 7 1 2 10 320) 32 (1 ∷ 1 ∷ []) 2 9 3
+    ∷ clean-says (settings 7 1 2 10 320) 32 (1 ∷ 1 ∷ []) 2 8 2
+    ∷ clean-says (settings 7 1 2 10 320) 32 (0 ∷ 1 ∷ []) 2 7 2
+    ∷ clean-says (settings 7 1 2 10 320) 32 (2 ∷ 2 ∷ []) 2 7 2
+    ∷ []
+    ≡ (1 ∷ []) ∷ (2 ∷ []) ∷ (3 ∷ []) ∷ (18 ∷ []) ∷ (4 ∷ []) ∷ (5 ∷ []) ∷ (5 ∷ []) ∷ (6 ∷ []) ∷ (7 ∷ []) ∷ (0 ∷ []) ∷ []
+unfolding some within sized rowBytes rowsOf stackBytes paddingSet ringsIn settable reachOf reachCases settingCases cleanCases cleanRefusal cleanAnswer settings clean-says
+clean-numbers = refl
 
 -- Judging ----------------------------------------------------------------------------------------------------------------
 

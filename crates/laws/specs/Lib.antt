@@ -15,6 +15,9 @@ pub mod RoundTrips
 pub mod Offsets
 pub mod Demand3
 pub mod Soundness
+pub mod Cleaning
+pub mod Cleaned
+pub mod Closing
 pub mod ReportLaws
 pub mod Tests
 pub mod Limits

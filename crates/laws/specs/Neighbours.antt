@@ -59,16 +59,21 @@ no-gap : (a b : ℕ) → apart a b ≤ 0 → a ≡ b
 unfolding apart
 no-gap a b h = omega arith
 
+-- pixels without distance are one
+pub distance-none : (w p o : ℕ) → distance² w p o ≤ 0 → p ≡ o
+unfolding distance²
+distance-none w p o z =
+    same-number w p o
+    (no-gap (p / w) (o / w) (omega (arith, square-grows (apart (p / w) (o / w)))))
+    (no-gap (p % w) (o % w) (omega (arith, square-grows (apart (p % w) (o % w)))))
+
 -- a reach of 0 "excuses nothing": no shadow pixel is near
 pub reach-none : (w h : ℕ) (low up : Plane) (p : ℕ) → reached w h 0 low up p ≡ false
-unfolding reached near shadow distance²
+unfolding reached near shadow
 reach-none w h low up p = split (reached w h 0 low up p)
     (λ t.
     let (o, lo, e) = some-out (h * w) (λ o. low o && leb (distance² w p o) 0) (and-r (shadow low up p) _ t) in
-    let z : distance² w p o ≤ 0 = leb-true _ _ (and-r (low o) _ e) in
-    let rows : p / w ≡ o / w = no-gap (p / w) (o / w) (omega (arith, square-grows (apart (p / w) (o / w)))) in
-    let columns : p % w ≡ o % w = no-gap (p % w) (o % w) (omega (arith, square-grows (apart (p % w) (o % w)))) in
-    let same : p ≡ o = same-number w p o rows columns in
+    let same : p ≡ o = distance-none w p o (leb-true _ _ (and-r (low o) _ e)) in
     clash (rw (← same) at (and-l (low o) _ e)) (not-out (low p) (and-r (up p) _ (and-l (shadow low up p) _ t))))
     (λ t. t)
 

@@ -4,8 +4,9 @@ use mathlib.Core.Bool.{Bool}
 use mathlib.Core.List.{List}
 use Prim.Native.Nat.{ℕ}
 use Rattle.rules.specs.Jobs.{Job}
-use Rattle.rules.specs.Outcomes.{Reaches, Plans, Judges, Reads, HandsPart, HandsSupport, Copies, Writes, Reports}
+use Rattle.rules.specs.Outcomes.{Reaches, Plans, Cleans, Judges, Reads, HandsPart, HandsSupport, Copies, Writes, Reports}
 use Rattle.rules.specs.declared.Micrometres.{Micrometres}
+use Rattle.rules.specs.declared.Pixels.{Pixels}
 use Rattle.rules.specs.declared.Settings.{Settings}
 use Rattle.rules.specs.declared.Reached.{Reached}
 use Rattle.rules.specs.declared.Planned.{Planned}
@@ -22,6 +23,10 @@ reach-settled p t r r′ a b = both (a .answer) (b .answer)
 
 pub plan-settled : (s : Settings) (part sup ring : List ℕ) (r q : Planned) (a b c d : List ℕ) → Plans s part sup ring r a b → Plans s part sup ring q c d → (r ≡ q) × (a ≡ c) × (b ≡ d)
 plan-settled s part sup ring r q a b c d x y = (both (x .answer) (y .answer), both (x .support) (y .support), both (x .rings) (y .rings))
+
+pub clean-settled : (s : Settings) (c : Pixels) (part sup ring clean : List ℕ) (r q : Planned) (a b d a′ b′ d′ : List ℕ) → Cleans s c part sup ring clean r a b d → Cleans s c part sup ring clean q a′ b′ d′ → (r ≡ q) × (a ≡ a′) × (b ≡ b′) × (d ≡ d′)
+clean-settled s c part sup ring clean r q a b d a′ b′ d′ x y =
+    (both (x .answer) (y .answer), both (x .support) (y .support), both (x .rings) (y .rings), both (x .cleaned) (y .cleaned))
 
 pub judge-settled : (s : Settings) (part sup ring : List ℕ) (r q : Judged) → Judges s part sup ring r → Judges s part sup ring q → r ≡ q
 judge-settled s part sup ring r q x y = both (x .answer) (y .answer)

@@ -12,9 +12,11 @@ use Rattle.rules.specs.Tools.{Case, _when_, refusal, answer}
 use Rattle.rules.specs.Images.{rowsOf, paddingSet}
 use Rattle.rules.specs.Demands.{Given, here, later, NoneGiven, end, next}
 use Rattle.rules.specs.Jobs.{Job}
-use Rattle.rules.specs.Calls.{reachCases, settingCases, lengthCases, bothCases, stackCases, planCases, judgeCases, sectionCases, readCases, copyCases, writeCases}
+use Rattle.rules.specs.Calls.{reachCases, settingCases, lengthCases, bothCases, stackCases, planCases, cleanCases, judgeCases, sectionCases, readCases}
+use Rattle.rules.specs.Calls.{copyCases, writeCases}
 use Rattle.rules.specs.Report.{reportCases}
 use Rattle.rules.specs.declared.Micrometres.{Micrometres}
+use Rattle.rules.specs.declared.Pixels.{Pixels}
 use Rattle.rules.specs.declared.Settings.{Settings}
 use Rattle.laws.specs.Tests.{split, clash, and-l, and-r}
 
@@ -178,6 +180,11 @@ reach-table p t = refl
 pub plan-table : (s : Settings) (part : List ℕ) (a b : ℕ) → numbers (planCases s part a b) ≡ 1 ∷ 2 ∷ 3 ∷ 4 ∷ 5 ∷ 6 ∷ 7 ∷ []
 unfolding planCases stackCases settingCases reachCases lengthCases
 plan-table s part a b = refl
+
+-- "those of planning, with 18 for c out of range after 3; a wrong length for F comes under 5"
+pub clean-table : (s : Settings) (c : Pixels) (part : List ℕ) (x y z : ℕ) → numbers (cleanCases s c part x y z) ≡ 1 ∷ 2 ∷ 3 ∷ 18 ∷ 4 ∷ 5 ∷ 5 ∷ 6 ∷ 7 ∷ []
+unfolding cleanCases settingCases reachCases
+clean-table s c part x y z = refl
 
 pub judge-table : (s : Settings) (part support : List ℕ) (a : ℕ) → numbers (judgeCases s part support a) ≡ 1 ∷ 2 ∷ 3 ∷ 4 ∷ 5 ∷ 6 ∷ 7 ∷ 8 ∷ []
 unfolding judgeCases bothCases stackCases settingCases reachCases lengthCases

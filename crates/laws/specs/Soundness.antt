@@ -189,10 +189,14 @@ module _ (w h n : ℕ) (q : ℕ → ℕ) (part : Stack) where
   supported sup s i p l lp f u x =
       ⊎-elim (λ t. ⊎-elim (λ y. clash y f) (λ y. y) (or-out (part i p) _ t)) (λ y. absurd (x y)) (s .holds i p l lp u)
 
-  -- support above rests on support: an excused pixel is one of the part
+  -- support above rests on support: an excused pixel is one of the shadow, and so of the part
+  pub excused-shadow : (i p : ℕ) → Excused w h q part i p → shadow (part i) (part (suc i)) p ≡ true
+  unfolding reached
+  excused-shadow i p (k, r) = and-l (shadow (part i) (part (suc i)) p) _ (joined-free r)
+
   pub excused-part : (i p : ℕ) → Excused w h q part i p → part (suc i) p ≡ true
-  unfolding reached shadow
-  excused-part i p (k, r) = let e : reached w h (q i) (part i) (part (suc i)) p ≡ true = joined-free r in search (and-l)
+  unfolding shadow
+  excused-part i p x = and-l (part (suc i) p) _ (excused-shadow i p x)
 
   -- (6) a sound stack that has what is painted outside the part has all that is planned
   least : (painted sup : Stack) → Sound w h n q part sup → ((i p : ℕ) → i < n → p < h * w → painted i p ≡ true → part i p ≡ false → sup i p ≡ true) →

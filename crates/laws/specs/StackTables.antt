@@ -3,15 +3,18 @@ use mathlib.Core.Path.{_≡_, refl, sym, ap, _∙_}
 use mathlib.Core.Logic.{_↔_}
 use mathlib.Core.Bool.{Bool, true, false, not, cond}
 use mathlib.Core.List.{List, [], _∷_, _++_}
-use Prim.Native.Nat.{ℕ}
-use lib.Dec.{eqb}
+use Prim.Native.Nat.{ℕ, _≤_, _<_}
+use lib.Dec.{eqb, ltb}
 use lib.ListN.{length}
-use borrow.Author.Tests.{eq-eqb, eqb-true, not-false}
+use borrow.Author.Tests.{eq-eqb, ne-eqb, eqb-true, not-false, le-ltb, lt-ltb, ltb-false}
 use Rattle.rules.specs.Tools.{Case, _when_, refusal}
 use Rattle.rules.specs.Images.{rowsOf, stackBytes, ringsIn, paddingSet}
-use Rattle.rules.specs.Calls.{reachCases, settingCases, lengthCases, stackCases, bothCases, planCases, planRefusal, judgeCases}
+use Rattle.rules.specs.Calls.{reachCases, settingCases, lengthCases, stackCases, bothCases, planCases, planRefusal, cleanCases, cleanRefusal, judgeCases}
+use Rattle.rules.specs.Cleaning.{mostGap}
 use Rattle.rules.specs.declared.Settings.{Settings}
-use Rattle.laws.specs.Refusals.{numbered, orElse, else-both, refusal-append, case-out, stack-numbered, none-both}
+use Rattle.rules.specs.declared.Pixels.{Pixels}
+use Rattle.laws.specs.Tests.{split}
+use Rattle.laws.specs.Refusals.{numbered, orElse, else-both, else-none, else-some, refusal-append, case-out, settings-numbered, stack-numbered, none-both}
 
 -- the lengths of part, support and rings are right
 pub record Lengths (s : Settings) (stored : Bool) (part sup k : ℕ) : Type 0 where
@@ -92,3 +95,57 @@ plan-exactly s part a b = stack-exactly s true part a b
 pub judge-exactly : (s : Settings) (part sup : List ℕ) (k : ℕ) → (refusal (judgeCases s part sup k) ≡ 0) ↔ Both s true part sup k
 unfolding judgeCases
 judge-exactly s part sup k = both-exactly s true part sup k
+
+-- Cleaning: planning's table with its own numbers between
+module _ (s : Settings) (c : Pixels) (part : List ℕ) (sup k clean : ℕ) where
+  -- 18 and what comes after it
+  abbrev behind : ℕ
+  behind =
+      refusal ((18 when ltb mostGap (c .0))
+      ∷ (4 when not (eqb (length part) (stackBytes s)))
+      ∷ (5 when not (eqb sup (stackBytes s)))
+      ∷ (5 when not (eqb clean (stackBytes s)))
+      ∷ (6 when not (eqb k (ringsIn s)))
+      ∷ (7 when paddingSet (s .w) (rowsOf s) part)
+      ∷ [])
+
+  clean-parts : cleanRefusal s c part sup k clean ≡ orElse (refusal (settingCases s)) behind
+  unfolding cleanRefusal cleanCases
+  clean-parts = refusal-append (settingCases s) _ (settings-numbered s)
+
+  -- "Refusals: those of planning", where c is in range and the cleaned support has its length
+  pub clean-as-plan : c .0 ≤ mostGap → clean ≡ stackBytes s → cleanRefusal s c part sup k clean ≡ planRefusal s part sup k
+  unfolding planRefusal planCases stackCases lengthCases settingCases reachCases
+  clean-as-plan l e = clean-parts ∙ rw (le-ltb mostGap (c .0) l, eq-eqb clean (stackBytes s) e)
+      (sym (refusal-append (settingCases s) (lengthCases s true (length part) sup k ++ (7 when paddingSet (s .w) (rowsOf s) part) ∷ []) (settings-numbered s)))
+
+  -- nothing is refused exactly where planning refuses nothing, c is in range and the cleaned support has its length
+  pub clean-exactly : (cleanRefusal s c part sup k clean ≡ 0) ↔ ((planRefusal s part sup k ≡ 0) × (c .0 ≤ mostGap) × (clean ≡ stackBytes s))
+  clean-exactly = (
+    (λ e.
+        let (a, e₁) = else-both (refusal (settingCases s)) behind (sym clean-parts ∙ e) in
+        let (g, e₂) = case-out (ltb mostGap (c .0)) 17 _ e₁ in
+        let (b, e₃) = case-out (not (eqb (length part) (stackBytes s))) 3 _ e₂ in
+        let (d, e₄) = case-out (not (eqb sup (stackBytes s))) 4 _ e₃ in
+        let (f, e₅) = case-out (not (eqb clean (stackBytes s))) 4 _ e₄ in
+        let l : c .0 ≤ mostGap = ltb-false mostGap (c .0) g in
+        let z : clean ≡ stackBytes s = eqb-true _ _ (not-false _ f) in
+        (sym (clean-as-plan l z) ∙ e, l, z)),
+    (λ (e, l, z). clean-as-plan l z ∙ e),
+  )
+
+  -- a test of the numbers in turn: settings, c, the length of the part and that of the cleaned support
+  pub clean-settings : (refusal (settingCases s) ≡ 0 → ⊥) → cleanRefusal s c part sup k clean ≡ refusal (settingCases s)
+  clean-settings n = clean-parts ∙ else-some (refusal (settingCases s)) behind n
+
+  pub clean-gap : refusal (settingCases s) ≡ 0 → mostGap < c .0 → cleanRefusal s c part sup k clean ≡ 18
+  clean-gap e l = clean-parts ∙ else-none (refusal (settingCases s)) behind e ∙ rw (lt-ltb mostGap (c .0) l)
+
+  pub clean-part : refusal (settingCases s) ≡ 0 → c .0 ≤ mostGap → (length part ≡ stackBytes s → ⊥) → cleanRefusal s c part sup k clean ≡ 4
+  clean-part e l n = clean-parts ∙ else-none (refusal (settingCases s)) behind e ∙ rw (le-ltb mostGap (c .0) l, ne-eqb (length part) (stackBytes s) n)
+
+  pub clean-length : refusal (settingCases s) ≡ 0 → c .0 ≤ mostGap → length part ≡ stackBytes s → (clean ≡ stackBytes s → ⊥) → cleanRefusal s c part sup k clean ≡ 5
+  clean-length e l p n =
+      clean-parts
+      ∙ else-none (refusal (settingCases s)) behind e
+      ∙ rw (le-ltb mostGap (c .0) l, eq-eqb (length part) (stackBytes s) p, ne-eqb clean (stackBytes s) n) (split (eqb sup (stackBytes s)) (λ t. rw t) (λ t. rw t))

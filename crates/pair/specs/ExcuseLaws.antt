@@ -6,12 +6,11 @@ use Prim.Native.Nat.{ℕ, _+_, _-_, _*_, _/_, _%_, _<_, _≤_}
 use native.Mathlib.Nat.{mul-le-mul, mod-lt, div-lt-iff-lt-mul, mul-assoc}
 use native.Mathlib.Omega.{arith}
 use native.Mathlib.Decide.{decLt}
-use borrow.Author.Tests.{lt-ltb}
 use lib.Arith.{digits-div, digits-mod}
 use lib.ListN.{length, getD}
 use Rattle.laws.specs.Tests.{and-true}
 use Rattle.image.specs.Scratch.{bitOf}
-use Rattle.words.specs.Words.{wordBit, rowPart, Within}
+use Rattle.words.specs.Words.{wordBit, Within}
 use Rattle.planes.specs.PlaneLaws.{row-bit, row-next}
 use Rattle.planes.specs.Scratch.{Sizes, rowBit}
 use Rattle.waves.specs.RowLaws.{gap-none, none-before}
@@ -21,19 +20,6 @@ use Rattle.pair.specs.Found.{packedBit}
 -- the n bytes from `at` on are left without the columns of x, and all others as they were
 abbrev pub Taken : ℕ → ℕ → (ℕ → Bool) → List ℕ → List ℕ → Type 0
 Taken at n x was now = Within (at * 8) ((at + n) * 8) (λ j. bitOf was j && not (x (j - at * 8))) (bitOf was) (bitOf now)
-
--- a row that is read, and written without the columns of x
-pub row-taken : (at n : ℕ) (x r v : ℕ → Bool) (was now : List ℕ) → ((c : ℕ) → r c ≡ rowPart was at n c) → ((c : ℕ) → v c ≡ (r c && not (x c)))
-    → Within (at * 8) ((at + n) * 8) (λ j. v (j - at * 8)) (bitOf was) (bitOf now) → Taken at n x was now
-unfolding rowPart
-row-taken at n x r v was now R Q W = record {
-  inner = λ j u h.
-      let c : ℕ = j - at * 8 in
-      let z : at * 8 + c ≡ j = omega arith in
-      W .inner j u h ∙ Q c ∙ ap (λ (b : Bool). b && not (x c)) (R c ∙ ap₂ _&&_ (lt-ltb c (n * 8) (omega arith)) (ap (bitOf was) z));
-  before = W .before;
-  behind = W .behind;
-}
 
 -- the rows before y are done
 pub record ExcusedTo (n y : ℕ) (got was now : List ℕ) : Type 0 where

@@ -9,14 +9,13 @@ use native.Mathlib.Decide.{decLt}
 use native.Mathlib.Omega.{arith}
 use borrow.Author.Tests.{eqb-true, not-false}
 use lib.Bits.{bitAnd, bitOr}
-use lib.Dec.{leb, eqb}
+use lib.Dec.{eqb}
 use lib.ListN.{length, getD, take, length-take, replicate, length-replicate, getD-replicate, List·getD-eq-default}
 use lib.Seq.{getD-take, length-take-le}
 use Rattle.rules.specs.Images.{Plane, bitAt, rowBytes}
 use Rattle.rules.specs.Planning.{touch, shadow, seeds, near, reached}
-use Rattle.rules.specs.Reach.{distance²}
 use Rattle.laws.specs.Growing.{grown-same, grown-none}
-use Rattle.laws.specs.Tests.{bool-eq, and-l, and-r, and-in, some-in, some-out}
+use Rattle.laws.specs.Closing.{near-same}
 use Rattle.image.specs.Bits.{bit-and, bit-or, bit-not, zero-bit, byte-but-not}
 use Rattle.image.specs.Filling.{bit-here}
 use Rattle.image.specs.Loops.{Bits, butNot}
@@ -29,14 +28,6 @@ use Rattle.pair.specs.Pairs.{pairRings, unexcused, pairSupport}
 -- A pair looks only at the pixels that exist -------------------------------------------------------------------------
 
 module _ (w h q : ℕ) (low low' up up' : Plane) (el : (p : ℕ) → p < h * w → low p ≡ low' p) (eu : (p : ℕ) → p < h * w → up p ≡ up' p) where
-  near-same : (p : ℕ) → near w h q low p ≡ near w h q low' p
-  unfolding near
-  near-same p = bool-eq _ _
-      (λ e. let (o, lo, t) = some-out (h * w) (λ o. low o && leb (distance² w p o) q) e in
-      some-in (h * w) (λ o. low' o && leb (distance² w p o) q) o lo (and-in (low' o) _ (sym (el o lo) ∙ and-l (low o) _ t) (and-r (low o) _ t)))
-      (λ e. let (o, lo, t) = some-out (h * w) (λ o. low' o && leb (distance² w p o) q) e in
-      some-in (h * w) (λ o. low o && leb (distance² w p o) q) o lo (and-in (low o) _ (el o lo ∙ and-l (low' o) _ t) (and-r (low' o) _ t)))
-
   shadow-same : (p : ℕ) → p < h * w → shadow low up p ≡ shadow low' up' p
   unfolding shadow
   shadow-same p lp = rw (el p lp, eu p lp)
@@ -44,7 +35,7 @@ module _ (w h q : ℕ) (low low' up up' : Plane) (el : (p : ℕ) → p < h * w �
   pub rings-same : pairRings w h q low up ≡ pairRings w h q low' up'
   unfolding pairRings reached seeds
   rings-same = grown-same (h * w) (touch w) (reached w h q low up) (reached w h q low' up') (seeds low up) (seeds low' up')
-      (λ p lp. ap₂ _&&_ (shadow-same p lp) (near-same p)) (λ p lp. ap₂ _&&_ (el p lp) (eu p lp))
+      (λ p lp. ap₂ _&&_ (shadow-same p lp) (near-same w h q low low' el p)) (λ p lp. ap₂ _&&_ (el p lp) (eu p lp))
 
   pub support-same : (above above' : Plane) → ((p : ℕ) → p < h * w → above p ≡ above' p) → (p : ℕ) → p < h * w → pairSupport w h q low up above p ≡ pairSupport w h q low' up' above' p
   unfolding pairSupport unexcused

@@ -1,15 +1,13 @@
 // The rows of a pair: found before its rings grow, and emptied afterwards.
-use words::Row;
 ghost use mathlib.Core.Path.{_≡_};
 ghost use Prim.Native.Nat.{ℕ, _+_, _*_, _<_, _≤_};
 ghost use lib.ListN.{length};
 ghost use Rattle.rules.specs.Images.{rowBytes};
 ghost use Rattle.rules.specs.Planning.{seeds, shadow};
 ghost use Rattle.image.specs.Rows.{packed, Clean};
-ghost use Rattle.words.specs.Words.{column};
 ghost use Rattle.planes.specs.Scratch.{Drawn, Ready, Sizes};
 ghost use Rattle.waves.specs.Rows.{Aheads, Room};
-ghost use Rattle.pair.specs.ExcuseLaws.{ExcusedTo, Taken};
+ghost use Rattle.pair.specs.ExcuseLaws.{ExcusedTo};
 ghost use Rattle.pair.specs.Found.{Empty, FoundRow};
 
 // Row y: its seeds, and its shadow if it has some. Answers the first row from y on that has shadow; `last` is that from y + 1 on.
@@ -89,15 +87,6 @@ pub fn empty(
     }
 }
 
-// Takes the pixels of x off the row of n bytes from `at` on.
-fn excuse_row(out: &mut [u8], at: usize, n: usize, x: Row)
-    requires { ⌜ (n ≤ 32) × (at + n ≤ length (now out)) ⌝ }
-    ensures { λ _. ⌜ Taken at n (column x) (now (out .entry)) (now (out .exit)) ⌝ }
-{
-    let row = words::rows::read(out, at, n);
-    words::rows::write(out, at, n, words::rows::but_not(row, x));
-}
-
 // Takes the excused pixels off the support of a layer, in the rows that `ahead` leads to.
 pub fn excuse(out: &mut [u8], got: &[u64], ahead: &[usize], w: usize, h: usize, n: usize)
     requires { ⌜ Sizes w h × Aheads h (now ahead) × Room w h (now ahead) (now got) × (0 < n) × (n ≤ 32) × (length (now out) ≡ h * n) ⌝ }
@@ -109,7 +98,7 @@ pub fn excuse(out: &mut [u8], got: &[u64], ahead: &[usize], w: usize, h: usize, 
         y = ahead[r + 1];
         let x = planes::rows::row(got, r + 33);
         if words::rows::any(x) {
-            excuse_row(out, r * n, n, x);
+            words::rows::take(out, r * n, n, x);
         }
     }
 }

@@ -1,10 +1,12 @@
 // Runs every bench piece of docs/RULES.md through the public calls, and then the ends of the limits. A planned piece shows its number, its
-// support in hexadecimal and its rings; a checked one its number and place.
+// support in hexadecimal and its rings; a cleaned one its number, its planned support and its cleaned; a checked one its number and place.
+use clean::clean;
 use judge::judge;
 use libc::STDOUT_FILENO;
 use plan::plan;
 use rules::Judged;
 use rules::Micrometres;
+use rules::Pixels;
 use rules::Planned;
 use rules::Settings;
 ghost use mathlib.Core.Path.{_≡_};
@@ -179,6 +181,32 @@ fn checks() {
     show_check(b"m", &[0x27, 0x00], &rings);
 }
 
+// Cleans two layers of eight pixels, and has the result checked.
+fn show_clean(name: &[u8], part: &[u8], gap: usize) {
+    let s = settings(8, 1, 2, 100, 100);
+    let mut support = [0xAAu8; 2];
+    let mut rings = [7u16; 8];
+    let mut cleaned = [0xAAu8; 2];
+    say(name);
+    show(plan_number(clean(s, Pixels(gap), part, &mut support, &mut rings, &mut cleaned)));
+    say(b" support");
+    show_bytes(&support);
+    say(b" cleaned");
+    show_bytes(&cleaned);
+    say(b" check");
+    show_judged(judge(s, part, &cleaned, &rings));
+}
+
+fn cleans() {
+    show_clean(b"n", &[0x00, 0xE7], 1);
+    show_clean(b"o", &[0x00, 0xC7], 1);
+    show_clean(b"p", &[0x00, 0xC7], 2);
+    show_clean(b"q", &[0x00, 0x7E], 1);
+    show_clean(b"r", &[0x10, 0xF7], 2);
+    show_clean(b"s", &[0x10, 0xF7], 0);
+    show_clean(b"s by 33", &[0x10, 0xF7], 33);
+}
+
 fn one(yes: bool) -> u64
     ensures { λ r. ⌜ r ≤ 1 ⌝ }
 {
@@ -323,6 +351,7 @@ fn nines() {
 fn main() {
     plans();
     checks();
+    cleans();
     full();
     half();
     disc();

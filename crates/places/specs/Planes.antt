@@ -10,9 +10,10 @@ use lib.ListN.{getD, length, take, drop, length-take, length-drop}
 use lib.Seq.{getD-take, getD-drop}
 use Rattle.rules.specs.Tools.{some}
 use Rattle.rules.specs.Images.{Plane, Stack, rowBytes, bitAt, pixel, ringAt}
-use Rattle.rules.specs.Planning.{shadow, near, seeds, reached, touch, source, touching, fits}
+use Rattle.rules.specs.Planning.{shadow, seeds, reached, touch, source, touching, fits}
 use Rattle.rules.specs.Judging.{overlap, badRing, unheld}
 use Rattle.laws.specs.Places.{digits-in}
+use Rattle.laws.specs.Closing.{near-same}
 use Rattle.image.specs.Rows.{packed}
 use Rattle.image.specs.Packed.{row-bit}
 use Rattle.places.specs.Search.{flat, bitIn, overlapHere, badHere, unheldHere, overlapIn}
@@ -69,10 +70,6 @@ pub some-same : (n : ℕ) (f g : ℕ → Bool) → ((x : ℕ) → x < n → f x 
 unfolding some
 some-same zero f g e = refl
 some-same (suc n) f g e = ap₂ (λ (a b : Bool). a || b) (e n (omega arith)) (some-same n f g (λ x l. e x (omega arith)))
-
-pub near-same : (w h q : ℕ) (f g : Plane) → ((p : ℕ) → p < h * w → f p ≡ g p) → (p : ℕ) → near w h q f p ≡ near w h q g p
-unfolding near
-near-same w h q f g e p = some-same (h * w) _ _ (λ o l. rw (e o l))
 
 module _ (w h q : ℕ) (low low′ up up′ : Plane) (ring ring′ : ℕ → ℕ) (el : (p : ℕ) → p < h * w → low p ≡ low′ p) (eu : (p : ℕ) → p < h * w → up p ≡ up′ p)
     (er : (p : ℕ) → p < h * w → ring p ≡ ring′ p) where

@@ -203,7 +203,7 @@ cutLow size i part = take (i * size + size - i * size) (drop (i * size) part)
 abbrev pub cutUp : ℕ → ℕ → List ℕ → List ℕ
 cutUp size i part = take (i * size + size + size - (i * size + size)) (drop (i * size + size) part)
 
-low-plane : (size i : ℕ) (part : List ℕ) → cutLow size i part ≡ plane size i part
+pub low-plane : (size i : ℕ) (part : List ℕ) → cutLow size i part ≡ plane size i part
 low-plane size i part = let e : i * size + size - i * size ≡ size = omega arith in ap (λ (k : ℕ). take k (drop (i * size) part)) e
 
 up-plane : (size i : ℕ) (part : List ℕ) → cutUp size i part ≡ plane size (suc i) part

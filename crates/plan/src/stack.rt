@@ -138,7 +138,7 @@ fn layers(
 }
 
 // The top layer has no support.
-fn top(support: &mut [u8], above: &[u8], w: usize, h: usize, n: usize, rb: usize)
+pub fn top(support: &mut [u8], above: &[u8], w: usize, h: usize, n: usize, rb: usize)
     requires { ⌜ Sized w h rb × (0 < n) ⌝ }
     requires { ⌜ (length (now support) ≡ n * h * rowBytes w) × Packs w h (λ p. false) (now above) ⌝ }
     ensures { λ _. ⌜ (plane (h * rowBytes w) (n - 1) (now (support .exit)) ≡ now (above .entry)) × OnlyPlane (h * rowBytes w) (n - 1) (now (support .exit)) (now (support .entry)) ⌝ }

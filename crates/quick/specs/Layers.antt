@@ -12,12 +12,12 @@ use Rattle.rules.specs.Images.{rowBytes}
 use Rattle.rules.specs.Planning.{near}
 use Rattle.laws.specs.Tests.{split, clash}
 use Rattle.laws.specs.Places.{digits-in}
+use Rattle.laws.specs.Closing.{near-same}
 use Rattle.image.specs.Rows.{packed, Clean}
 use Rattle.words.specs.Words.{wordBit, rowPart}
 use Rattle.planes.specs.Scratch.{spot, Sizes, Framed, seen, Drawn, RowPut}
 use Rattle.planes.specs.PlaneLaws.{seen-at}
 use Rattle.places.specs.Search.{Sized}
-use Rattle.places.specs.Planes.{near-same}
 use Rattle.quick.specs.RowsOfPair.{packed-part, part-in}
 
 pub sizes-of : (w h : ℕ) → Sized w h → Sizes w h

@@ -8,10 +8,12 @@ use Rattle.rules.specs.Tools.{Case, _when_, refusal, answer}
 use Rattle.rules.specs.Images.{rowBytes, sized, rowsOf, stackBytes, ringsIn, paddingSet}
 use Rattle.rules.specs.Reach.{settable, reachOf, mostReach, boundOf}
 use Rattle.rules.specs.Planning.{plannedRings, plannedBytes}
+use Rattle.rules.specs.Cleaning.{mostGap, cleanedBytes}
 use Rattle.rules.specs.Judging.{verdictOf}
 use Rattle.rules.specs.Jobs.{Job, be32, headEnd, partEnd, supportCount, supportEnd, ringCount, jobEnd, settingsIn, storedIn, partIn, supportIn}
 use Rattle.rules.specs.Jobs.{ringsStored, layoutOf, fileOf, fileLength, over}
 use Rattle.rules.specs.declared.Micrometres.{Micrometres}
+use Rattle.rules.specs.declared.Pixels.{Pixels}
 use Rattle.rules.specs.declared.Settings.{Settings}
 use Rattle.rules.specs.declared.Reached.{Reached}
 use Rattle.rules.specs.declared.Reached.the-variants.{By, Refused as NotReached}
@@ -116,6 +118,39 @@ planSupport s part support rings =
 unfoldable pub planRings : Settings → List ℕ → List ℕ → List ℕ → List ℕ
 planRings s part support rings =
     answer (planRefusal s part (length support) (length rings)) (plannedRings (s .w) (s .h) (s .n) (boundOf s) part) (λ k. rings)
+
+-- Rule 6.9, cleaning: part is read, support, rings and cleaned support are lent --------------------------------------------------------
+
+-- planning's table, "with 18 for c out of range after 3; a wrong length for F comes under 5"
+unfoldable pub cleanCases : Settings → Pixels → List ℕ → ℕ → ℕ → ℕ → List Case
+cleanCases s c part support rings clean =
+    settingCases s
+    ++ (18 when ltb mostGap (c .0))
+    ∷ (4 when not (eqb (length part) (stackBytes s)))
+    ∷ (5 when not (eqb support (stackBytes s)))
+    ∷ (5 when not (eqb clean (stackBytes s)))
+    ∷ (6 when not (eqb rings (ringsIn s)))
+    ∷ (7 when paddingSet (s .w) (rowsOf s) part)
+    ∷ []
+
+unfoldable pub cleanRefusal : Settings → Pixels → List ℕ → ℕ → ℕ → ℕ → ℕ
+cleanRefusal s c part support rings clean = refusal (cleanCases s c part support rings clean)
+
+unfoldable pub cleanAnswer : Settings → Pixels → List ℕ → ℕ → ℕ → ℕ → Planned
+cleanAnswer s c part support rings clean = answer (cleanRefusal s c part support rings clean) Done NotPlanned
+
+-- support and rings are those of planning, and the cleaned support is beside them
+unfoldable pub cleanSupport : Settings → Pixels → List ℕ → List ℕ → List ℕ → List ℕ → List ℕ
+cleanSupport s c part support rings clean =
+    answer (cleanRefusal s c part (length support) (length rings) (length clean)) (plannedBytes (s .w) (s .h) (s .n) (boundOf s) part) (λ k. support)
+
+unfoldable pub cleanRings : Settings → Pixels → List ℕ → List ℕ → List ℕ → List ℕ → List ℕ
+cleanRings s c part support rings clean =
+    answer (cleanRefusal s c part (length support) (length rings) (length clean)) (plannedRings (s .w) (s .h) (s .n) (boundOf s) part) (λ k. rings)
+
+unfoldable pub cleanCleaned : Settings → Pixels → List ℕ → List ℕ → List ℕ → List ℕ → List ℕ
+cleanCleaned s c part support rings clean =
+    answer (cleanRefusal s c part (length support) (length rings) (length clean)) (cleanedBytes (s .w) (s .h) (s .n) (boundOf s) c part) (λ k. clean)
 
 -- Rule 6.3, judging ------------------------------------------------------------------------------------------------------------------
 

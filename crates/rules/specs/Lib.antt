@@ -3,6 +3,7 @@ pub mod Tools
 pub mod Images
 pub mod Reach
 pub mod Planning
+pub mod Cleaning
 pub mod Judging
 pub mod Jobs
 pub mod Calls

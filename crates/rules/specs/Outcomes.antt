@@ -7,9 +7,10 @@ use Prim.Native.Nat.{ℕ}
 use lib.ListN.{length}
 use Rattle.rules.specs.Jobs.{Job, over}
 use Rattle.rules.specs.Calls.{reachAnswer, planAnswer, planSupport, planRings, judgeAnswer, readAnswer, partAnswer, supportAnswer, copyAnswer, copyRings}
-use Rattle.rules.specs.Calls.{writeAnswer, writeTo}
+use Rattle.rules.specs.Calls.{cleanAnswer, cleanSupport, cleanRings, cleanCleaned, writeAnswer, writeTo}
 use Rattle.rules.specs.Report.{textOf}
 use Rattle.rules.specs.declared.Micrometres.{Micrometres}
+use Rattle.rules.specs.declared.Pixels.{Pixels}
 use Rattle.rules.specs.declared.Settings.{Settings}
 use Rattle.rules.specs.declared.Reached.{Reached}
 use Rattle.rules.specs.declared.Planned.{Planned}
@@ -27,6 +28,13 @@ pub record Plans (s : Settings) (part sup ring : List ℕ) (r : Planned) (sup′
   pub answer : r ≡ planAnswer s part (length sup) (length ring)
   pub support : sup′ ≡ planSupport s part sup ring
   pub rings : ring′ ≡ planRings s part sup ring
+
+-- clean: the same of support and rings, and with clean and clean′ of the cleaned support
+pub record Cleans (s : Settings) (c : Pixels) (part sup ring clean : List ℕ) (r : Planned) (sup′ ring′ clean′ : List ℕ) : Type 0 where
+  pub answer : r ≡ cleanAnswer s c part (length sup) (length ring) (length clean)
+  pub support : sup′ ≡ cleanSupport s c part sup ring clean
+  pub rings : ring′ ≡ cleanRings s c part sup ring clean
+  pub cleaned : clean′ ≡ cleanCleaned s c part sup ring clean
 
 -- check: what is lent is only read
 pub record Judges (s : Settings) (part sup ring : List ℕ) (r : Judged) : Type 0 where

@@ -3,7 +3,7 @@
 // A length in micrometres. Only the rules of reach and bound turn it into pixels.
 pub struct Micrometres(pub u32);
 
-// A length in pixels: a reach, or how far a disc runs to each side.
+// A length in pixels: a reach, how far a disc runs to each side, or the radius c of cleaning.
 pub struct Pixels(pub usize);
 
 // A bound on squared distances between pixels.
@@ -31,7 +31,7 @@ pub enum Reached {
     Refused(u8),
 }
 
-// The answer of planning.
+// The answer of planning, and of cleaning.
 pub enum Planned {
     Done,
     Refused(u8),

@@ -9,11 +9,11 @@ use borrow.Author.Tests.{lt-ltb, le-ltb, le-leb, lt-leb, leb-true}
 use lib.Bits.{bitAnd, bitOr}
 use lib.Dec.{leb, ltb}
 use lib.ListN.{length, getD, set, List·getD-eq-default}
-use Rattle.laws.specs.Tests.{clash, and-l, and-r, and-in, or-l, or-r, or-cases}
+use Rattle.laws.specs.Tests.{clash, and-l, and-r, and-in, and-true, or-l, or-r, or-cases}
 use Rattle.image.specs.Bits.{or-none}
 use Rattle.image.specs.Scratch.{bitOf}
-use Rattle.words.specs.Words.{place, flat, bitOfWord, wordBit, Digits, rowPart, rowAt, beside, Widened, Within, WordPart}
-use Rattle.words.specs.Digits.{place-zero, digits-zero, digits-and, digits-or, digits-not, digits-across}
+use Rattle.words.specs.Words.{place, flat, bitOfWord, wordBit, Digits, rowPart, rowAt, beside, Widened, Within, WordPart, BarePart, TakenPart}
+use Rattle.words.specs.Digits.{place-and, place-not, place-zero, digits-zero, digits-and, digits-or, digits-not, digits-across}
 use Rattle.words.specs.WordLaws.{flat-here, digits-here, digits-same, Filling, filling-from, filling-next, filling-all}
 
 -- the words of a row are f's columns from column q * 64 on
@@ -154,7 +154,7 @@ module _ (l : List ℕ) (at n : ℕ) where
     behind = λ j u. W .behind j u ∙ T .behind j (omega arith);
   }
 
-pub row-written : (a b c d at n : ℕ) (was f g h now : ℕ → Bool) → n ≤ 32 → WordPart at n 0 a was f → WordPart at n 1 b f g → WordPart at n 2 c g h → WordPart at n 3 d h now
+row-written : (a b c d at n : ℕ) (was f g h now : ℕ → Bool) → n ≤ 32 → WordPart at n 0 a was f → WordPart at n 1 b f g → WordPart at n 2 c g h → WordPart at n 3 d h now
     → Within (at * 8) ((at + n) * 8) (λ j. wordBit (a ∷ b ∷ c ∷ d ∷ []) (j - at * 8)) was now
 row-written a b c d at n was f g h now ln A B C D =
     let l : List ℕ = a ∷ b ∷ c ∷ d ∷ [] in
@@ -162,6 +162,79 @@ row-written a b c d at n was f g h now ln A B C D =
     rw e at
     (word-written l at n 3 d was h now refl D (word-written l at n 2 c was g h refl C (word-written l at n 1 b was f g refl B
     (word-written l at n 0 a was was f refl A (within-none (at * 8) ((at + min n 0) * 8) (λ j. wordBit l (j - at * 8)) was (omega arith))))))
+
+-- bits laid on a row without any ------------------------------------------------------------------------------------------
+
+pub none-laid : (at n q x : ℕ) (was : ℕ → Bool) → x ≡ 0 → BarePart at n q was → WordPart at n q x was was
+unfolding bitOfWord
+none-laid at n q x was z bare = record {
+  inner = λ j lo hi. bare j lo hi ∙ sym (ap (λ (y : ℕ). place y (63 - (j - (at + q * 8) * 8))) z ∙ place-zero (63 - (j - (at + q * 8) * 8)));
+  before = λ j u. refl;
+  behind = λ j u. refl;
+}
+
+pub row-laid : (a b c d at n : ℕ) (was f g h now : ℕ → Bool) → n ≤ 32 → (BarePart at n 0 was → WordPart at n 0 a was f) → (BarePart at n 1 f → WordPart at n 1 b f g)
+    → (BarePart at n 2 g → WordPart at n 2 c g h) → (BarePart at n 3 h → WordPart at n 3 d h now) → ((j : ℕ) → at * 8 ≤ j → j < (at + n) * 8 → was j ≡ false)
+    → Within (at * 8) ((at + n) * 8) (λ j. wordBit (a ∷ b ∷ c ∷ d ∷ []) (j - at * 8)) was now
+row-laid a b c d at n was f g h now ln A B C D bare =
+    let A′ = A (λ j lo hi. bare j (omega arith) (omega arith)) in
+    let B′ = B (λ j lo hi. A′ .behind j lo ∙ bare j (omega arith) (omega arith)) in
+    let C′ = C (λ j lo hi. B′ .behind j lo ∙ A′ .behind j (omega arith) ∙ bare j (omega arith) (omega arith)) in
+    let D′ = D (λ j lo hi. C′ .behind j lo ∙ B′ .behind j (omega arith) ∙ A′ .behind j (omega arith) ∙ bare j (omega arith) (omega arith)) in
+    row-written a b c d at n was f g h now ln A′ B′ C′ D′
+
+-- bits taken off a row -----------------------------------------------------------------------------------------------------
+
+-- word q is read, and written without the bits of x
+pub part-taken : (s : List ℕ) (at n q r x : ℕ) (now : ℕ → Bool) → x < 2 ^ 64 → Digits 64 r (q * 64) (rowPart s at n) → WordPart at n q (bitAnd r (2 ^ 64 - 1 - x)) (bitOf s) now →
+    TakenPart at n q x (bitOf s) now
+unfolding bitOfWord rowPart
+part-taken s at n q r x now lx R W = record {
+  inner = λ j lo hi.
+      let k : ℕ = j - (at + q * 8) * 8 in
+      let z : at * 8 + (q * 64 + k) ≡ j = omega arith in
+      W .inner j lo hi ∙ place-and r (2 ^ 64 - 1 - x) (63 - k)
+      ∙ ap₂ _&&_ (R .bits (63 - k) k (omega arith) ∙ ap₂ _&&_ (lt-ltb (q * 64 + k) (n * 8) (omega arith)) (ap (bitOf s) z)) (place-not 64 x (63 - k) lx (omega arith));
+  before = W .before;
+  behind = W .behind;
+}
+
+-- nothing is taken off
+pub none-taken : (at n q x : ℕ) (was : ℕ → Bool) → x ≡ 0 → TakenPart at n q x was was
+unfolding bitOfWord
+none-taken at n q x was z = record {
+  inner = λ j lo hi. sym (ap (λ (b : Bool). was j && not b) (ap (λ (y : ℕ). place y (63 - (j - (at + q * 8) * 8))) z ∙ place-zero (63 - (j - (at + q * 8) * 8))) ∙ and-true (was j));
+  before = λ j u. refl;
+  behind = λ j u. refl;
+}
+
+module _ (l : List ℕ) (at n : ℕ) where
+  abbrev TakenTo : ℕ → (ℕ → Bool) → (ℕ → Bool) → Type 0
+  TakenTo e was = Within (at * 8) ((at + min n e) * 8) (λ j. was j && not (wordBit l (j - at * 8))) was
+
+  word-taken : (q x : ℕ) (was mid now : ℕ → Bool) → getD l q 0 ≡ x → TakenPart at n q x mid now → TakenTo (q * 8) was mid → TakenTo (q * 8 + 8) was now
+  unfolding bitOfWord
+  word-taken q x was mid now ex W T = record {
+    inner = λ j u v. elim (decLt j ((at + min n (q * 8)) * 8)) [
+      | yes h ↦ W .before j h ∙ T .inner j u h
+      | no h ↦
+          let k : ℕ = j - (at + q * 8) * 8 in
+          let z : j - at * 8 ≡ q * 64 + k = omega arith in
+          W .inner j (omega arith) v
+          ∙ ap₂ (λ (a b : Bool). a && not b) (T .behind j (omega arith)) (sym (ap (wordBit l) z ∙ flat-here 64 l q (63 - k) k (omega arith) ∙ ap (λ (i : ℕ). place i (63 - k)) ex))
+    ];
+    before = λ j u. W .before j (omega arith) ∙ T .before j u;
+    behind = λ j u. W .behind j u ∙ T .behind j (omega arith);
+  }
+
+pub row-taken : (a b c d at n : ℕ) (was f g h now : ℕ → Bool) → n ≤ 32 → TakenPart at n 0 a was f → TakenPart at n 1 b f g → TakenPart at n 2 c g h → TakenPart at n 3 d h now
+    → Within (at * 8) ((at + n) * 8) (λ j. was j && not (wordBit (a ∷ b ∷ c ∷ d ∷ []) (j - at * 8))) was now
+row-taken a b c d at n was f g h now ln A B C D =
+    let l : List ℕ = a ∷ b ∷ c ∷ d ∷ [] in
+    let e : min n 32 ≡ n = omega arith in
+    rw e at
+    (word-taken l at n 3 d was h now refl D (word-taken l at n 2 c was g h refl C (word-taken l at n 1 b was f g refl B
+    (word-taken l at n 0 a was was f refl A (within-none (at * 8) ((at + min n 0) * 8) (λ j. was j && not (wordBit l (j - at * 8))) was (omega arith))))))
 
 -- widening ---------------------------------------------------------------------------------------------------------------
 

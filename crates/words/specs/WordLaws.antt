@@ -1,9 +1,9 @@
 -- Laws of lists of bytes and of words: their bits, what each store of a loop adds, what the whole loop leaves; words read from bytes.
 use mathlib.Core.Path.{_≡_, refl, sym, ap, ap₂, subst, _∙_}
-use mathlib.Core.Bool.{Bool, false}
+use mathlib.Core.Bool.{Bool, true, false, not}
 use mathlib.Core.List.{List}
 use Prim.Native.Nat.{ℕ, suc, _+_, _-_, _*_, _/_, _%_, _^_, _<_, _≤_}
-use native.Mathlib.Nat.{div-add-mod', mod-lt, le-div-iff-mul-le, div-lt-iff-lt-mul, add-zero, mul-one, add-mul, mul-assoc}
+use native.Mathlib.Nat.{div-add-mod', mod-lt, le-div-iff-mul-le, div-lt-iff-lt-mul, add-zero, zero-mul, mul-one, add-mul, mul-assoc}
 use native.Mathlib.Omega.{arith}
 use native.Mathlib.Decide.{decLt, ℕ-discrete}
 use borrow.Author.Tests.{lt-ltb, le-ltb}
@@ -16,7 +16,7 @@ use lib.Seq.{getD-set-same, getD-set-other}
 use Rattle.rules.specs.Images.{bitAt}
 use Rattle.image.specs.Scratch.{bitOf}
 use Rattle.words.specs.Words.{place, bitOfWord, flat, Digits, rowPart, Within}
-use Rattle.words.specs.Digits.{place-shr, place-mod-below, digits-none, digits-zero, digits-join}
+use Rattle.words.specs.Digits.{place-shr, place-mod-below, digits-none, digits-zero, digits-join, digits-left, digits-not}
 
 pub flat-here : (w : ℕ) (l : List ℕ) (i e k : ℕ) → e + suc k ≡ w → flat w l (i * w + k) ≡ place (getD l i 0) e
 unfolding flat
@@ -181,3 +181,32 @@ none-row s at n q l = digits-zero 64 (q * 64) (rowPart s at n) (λ k lk. rw (le-
 
 pub first-word : (s : List ℕ) (at n r : ℕ) → 8 ≤ n → Digits 64 r (at * 8) (bitOf s) → Digits 64 r 0 (rowPart s at n)
 first-word s at n r l X = let e : at ≡ at + 0 * 8 = omega arith in whole-row s at n 0 r l (rw e at X)
+
+-- Rows with their first columns filled -----------------------------------------------------------------------------------
+
+all-ones : (a : ℕ) → Digits 64 18446744073709551615 a (λ j. true)
+all-ones a = digits-not 64 0 a (λ j. false) (digits-zero 64 a (λ j. false) (λ k l. refl))
+
+pub full-all : (w a : ℕ) → a + 64 ≤ w → Digits 64 18446744073709551615 a (λ c. ltb c w)
+full-all w a l = digits-same 64 18446744073709551615 a a (λ j. true) (λ c. ltb c w) (λ k lk. sym (lt-ltb (a + k) w (omega arith))) (all-ones a)
+
+pub full-none : (w a : ℕ) → w ≤ a → Digits 64 0 a (λ c. ltb c w)
+full-none w a l = digits-zero 64 a (λ c. ltb c w) (λ k lk. le-ltb (a + k) w (omega arith))
+
+-- k columns from a on
+pub full-part : (w a k : ℕ) → k < 64 → a + k ≡ w → Digits 64 (2 ^ 64 - 1 - 18446744073709551615 / 2 ^ k) a (λ c. ltb c w)
+full-part w a k lk e =
+    let y : ℕ = 18446744073709551615 / 2 ^ k in
+    let f : ℕ → Bool = λ c. not (ltb c w) in
+    let z : k + (64 - k) ≡ 64 = omega arith in
+    let z′ : 64 - k + k ≡ 64 = omega arith in
+    let rest : Digits (64 - k) y (a + k) f =
+    digits-same (64 - k) y 0 (a + k) (λ j. true) f (λ i l. sym (ap not (le-ltb (a + k + i) w (omega arith)))) (digits-left (64 - k) k 18446744073709551615 0 (λ j. true) (rw z′ (all-ones 0))) in
+    let none : Digits k 0 a f = digits-zero k a f (λ i l. ap not (lt-ltb (a + i) w (omega arith))) in
+    let both : Digits 64 (0 * 2 ^ (64 - k) + y) a f = rw z at (digits-join k (64 - k) 0 y a f none rest) in
+    let e₀ : 0 * 2 ^ (64 - k) + y ≡ y = omega (arith, zero-mul (2 ^ (64 - k))) in
+    digits-same 64 (2 ^ 64 - 1 - y) a a (λ c. not (f c)) (λ c. ltb c w) (λ i l. not-not (ltb (a + i) w)) (digits-not 64 y a f (rw e₀ at both))
+  where
+    not-not : (b : Bool) → not (not b) ≡ b
+    not-not true = refl
+    not-not false = refl

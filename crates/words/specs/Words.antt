@@ -1,6 +1,6 @@
 -- Words of 64 bits, the highest bit leftmost, and rows of four of them.
 use mathlib.Core.Path.{_≡_}
-use mathlib.Core.Bool.{Bool, true, _&&_, _||_, cond}
+use mathlib.Core.Bool.{Bool, true, false, not, _&&_, _||_, cond}
 use mathlib.Core.List.{List, [], _∷_}
 use Prim.Native.Nat.{ℕ, suc, min, _+_, _-_, _*_, _/_, _%_, _^_, _<_, _≤_}
 use lib.Count.{trailingZeros}
@@ -62,6 +62,14 @@ pub record Within (a b : ℕ) (g was now : ℕ → Bool) : Type 0 where
 -- those bytes of word q, which is x, that a row of n bytes has, written to their places in the row from byte `at` on
 abbrev pub WordPart : ℕ → ℕ → ℕ → ℕ → (ℕ → Bool) → (ℕ → Bool) → Type 0
 WordPart at n q x = Within ((at + min n (q * 8)) * 8) ((at + min n (q * 8 + 8)) * 8) (λ j. bitOfWord x (j - (at + q * 8) * 8))
+
+-- no bit of those bytes is set
+abbrev pub BarePart : ℕ → ℕ → ℕ → (ℕ → Bool) → Type 0
+BarePart at n q was = (j : ℕ) → (at + min n (q * 8)) * 8 ≤ j → j < (at + min n (q * 8 + 8)) * 8 → was j ≡ false
+
+-- the bits of x taken off those bytes of word q, and all else as it was
+abbrev pub TakenPart : ℕ → ℕ → ℕ → ℕ → (ℕ → Bool) → (ℕ → Bool) → Type 0
+TakenPart at n q x was = Within ((at + min n (q * 8)) * 8) ((at + min n (q * 8 + 8)) * 8) (λ j. was j && not (bitOfWord x (j - (at + q * 8) * 8))) was
 
 -- the last bit of x that is set
 unfoldable pub lastBit : ℕ → ℕ

@@ -7,10 +7,11 @@ ghost use mathlib.Core.List.{[], _∷_};
 ghost use mathlib.Core.Bool.{Bool, false, not, _&&_, _||_};
 ghost use Prim.Native.Nat.{ℕ, _+_, _-_, _*_, _^_, _<_, _≤_};
 ghost use lib.Count.{ones};
+ghost use lib.Dec.{ltb};
 ghost use lib.ListN.{length};
 ghost use Rattle.rules.specs.Tools.{count};
 ghost use Rattle.image.specs.Scratch.{bitOf};
-ghost use Rattle.words.specs.Words.{Digits, WordPart, wordBit, column, rowPart, rowAt, beside, Widened, Within};
+ghost use Rattle.words.specs.Words.{Digits, WordPart, BarePart, TakenPart, wordBit, column, rowPart, rowAt, beside, Widened, Within};
 
 // The row without a pixel.
 pub fn none() -> Row
@@ -22,6 +23,33 @@ pub fn none() -> Row
         c: 0,
         d: 0,
     }
+}
+
+// Word q of the row whose first w columns are filled.
+fn full_word(w: usize, q: usize) -> u64
+    requires { ⌜ (q < 4) ⌝ }
+    ensures { λ r. ⌜ Digits 64 r (q * 64) (λ c. ltb c w) ⌝ }
+{
+    let b = q * 64;
+    if w <= b {
+        return 0;
+    }
+    if b + 64 <= w {
+        return 18446744073709551615;
+    }
+    !(18446744073709551615u64 >> (w - b))
+}
+
+// The row whose first w columns are filled: an image's.
+pub fn full(w: usize) -> Row
+    requires { ⌜ w ≤ 256 ⌝ }
+    ensures { λ r. ⌜ ((c : ℕ) → column r c ≡ ltb c w) ⌝ }
+{
+    let a = full_word(w, 0);
+    let b = full_word(w, 1);
+    let c = full_word(w, 2);
+    let d = full_word(w, 3);
+    Row { a, b, c, d }
 }
 
 // Word q of the row of n bytes from `at` on.
@@ -108,23 +136,64 @@ fn write_word(out: &mut [u8], at: usize, n: usize, q: usize, x: u64)
     crate::bytes::put(out, at + b, n - b, x);
 }
 
-fn write_words(out: &mut [u8], at: usize, n: usize, a: u64, b: u64, c: u64, d: u64)
-    requires { ⌜ (n ≤ 32) × (at + n ≤ length (now out)) ⌝ }
-    ensures { λ _. ⌜ Within (at * 8) ((at + n) * 8) (λ j. wordBit (a ∷ b ∷ c ∷ d ∷ []) (j - at * 8)) (bitOf (now (out .entry))) (bitOf (now (out .exit))) ⌝ }
+// Those bytes of word q that a row of n bytes has, where they have no bit yet. Of the bytes of a word the compiler makes one store only where it stands between tests, such as that for
+// none here: where stores of words follow each other, it leaves them as single bytes.
+fn lay_word(out: &mut [u8], at: usize, n: usize, q: usize, x: u64)
+    requires { ⌜ (at + n ≤ length (now out)) × (q < 4) ⌝ }
+    ensures { λ _. ⌜ (BarePart at n q (bitOf (now (out .entry))) → WordPart at n q x (bitOf (now (out .entry))) (bitOf (now (out .exit)))) ⌝ }
 {
-    write_word(out, at, n, 0, a);
-    write_word(out, at, n, 1, b);
-    write_word(out, at, n, 2, c);
-    write_word(out, at, n, 3, d);
+    if x == 0 {
+        return;
+    }
+    write_word(out, at, n, q, x);
 }
 
-// The first n bytes of a row, to `at` and behind. It has no case of its own for 32 bytes: where stores of words follow each other with no
-// test between, the compiler leaves them as single bytes.
-pub fn write(out: &mut [u8], at: usize, n: usize, x: Row)
+fn lay_words(out: &mut [u8], at: usize, n: usize, a: u64, b: u64, c: u64, d: u64)
     requires { ⌜ (n ≤ 32) × (at + n ≤ length (now out)) ⌝ }
-    ensures { λ _. ⌜ Within (at * 8) ((at + n) * 8) (λ j. column x (j - at * 8)) (bitOf (now (out .entry))) (bitOf (now (out .exit))) ⌝ }
+    ensures { λ _. ⌜ (((j : ℕ) → at * 8 ≤ j → j < (at + n) * 8 → bitOf (now (out .entry)) j ≡ false) → Within (at * 8) ((at + n) * 8) (λ j. wordBit (a ∷ b ∷ c ∷ d ∷ []) (j - at * 8)) (bitOf (now (out .entry))) (bitOf (now (out .exit)))) ⌝ }
 {
-    write_words(out, at, n, x.a, x.b, x.c, x.d);
+    lay_word(out, at, n, 0, a);
+    lay_word(out, at, n, 1, b);
+    lay_word(out, at, n, 2, c);
+    lay_word(out, at, n, 3, d);
+}
+
+// The first n bytes of a row, to `at` and behind, where no bit is set yet.
+pub fn lay(out: &mut [u8], at: usize, n: usize, x: Row)
+    requires { ⌜ (n ≤ 32) × (at + n ≤ length (now out)) ⌝ }
+    ensures { λ _. ⌜ (((j : ℕ) → at * 8 ≤ j → j < (at + n) * 8 → bitOf (now (out .entry)) j ≡ false) → Within (at * 8) ((at + n) * 8) (λ j. column x (j - at * 8)) (bitOf (now (out .entry))) (bitOf (now (out .exit)))) ⌝ }
+{
+    lay_words(out, at, n, x.a, x.b, x.c, x.d);
+}
+
+// Takes the bits of x off word q of the row of n bytes from `at` on.
+fn take_word(out: &mut [u8], at: usize, n: usize, q: usize, x: u64)
+    requires { ⌜ (at + n ≤ length (now out)) × (q < 4) ⌝ }
+    ensures { λ _. ⌜ TakenPart at n q x (bitOf (now (out .entry))) (bitOf (now (out .exit))) ⌝ }
+{
+    if x == 0 {
+        return;
+    }
+    let r = word_of(out, at, n, q);
+    write_word(out, at, n, q, r & !x);
+}
+
+fn take_words(out: &mut [u8], at: usize, n: usize, a: u64, b: u64, c: u64, d: u64)
+    requires { ⌜ (n ≤ 32) × (at + n ≤ length (now out)) ⌝ }
+    ensures { λ _. ⌜ Within (at * 8) ((at + n) * 8) (λ j. bitOf (now (out .entry)) j && not (wordBit (a ∷ b ∷ c ∷ d ∷ []) (j - at * 8))) (bitOf (now (out .entry))) (bitOf (now (out .exit))) ⌝ }
+{
+    take_word(out, at, n, 0, a);
+    take_word(out, at, n, 1, b);
+    take_word(out, at, n, 2, c);
+    take_word(out, at, n, 3, d);
+}
+
+// Takes the pixels of x off the row of n bytes from `at` on.
+pub fn take(out: &mut [u8], at: usize, n: usize, x: Row)
+    requires { ⌜ (n ≤ 32) × (at + n ≤ length (now out)) ⌝ }
+    ensures { λ _. ⌜ Within (at * 8) ((at + n) * 8) (λ j. bitOf (now (out .entry)) j && not (column x (j - at * 8))) (bitOf (now (out .entry))) (bitOf (now (out .exit))) ⌝ }
+{
+    take_words(out, at, n, x.a, x.b, x.c, x.d);
 }
 
 // The row that stands at word i.
@@ -241,19 +310,29 @@ pub fn wide(x: Row, s: Pixels) -> Row
     wide_words(x.a, x.b, x.c, x.d, s.0)
 }
 
-// The row `by` columns wider to each side. A step is at most what was widened before and one more: a pixel at the edge of the image has
-// no more columns beside it, and a longer step leaves a gap there.
+// A row that is one column wider already made n columns wider to each side. A step is at most what was widened before and one more: a pixel at
+// the edge of the image has no more columns beside it, and a longer step leaves a gap there.
+fn widen_on(r: Row, n: usize) -> Row
+    requires { ⌜ (0 < n) × (n ≤ 32) ⌝ }
+    ensures { λ t. ⌜ ((x : ℕ → Bool) → ((c : ℕ) → 256 ≤ c → x c ≡ false) → Widened 1 x (column r) → Widened n x (column t)) ⌝ }
+{
+    let mut t = r;
+    let mut done: usize = 1;
+    while done < n {
+        let s = numbers::lesser(done + 1, n - done);
+        t = wide(t, Pixels(s));
+        done += s;
+    }
+    t
+}
+
+// The row `by` columns wider to each side. The first column is a step by itself: most rows of a disc are wider by one column or none.
 pub fn widen(x: Row, by: Pixels) -> Row
     requires { ⌜ by .0 ≤ 32 ⌝ }
     ensures { λ r. ⌜ Widened (by .0) (column x) (column r) ⌝ }
 {
-    let n = by.0;
-    let mut r = x;
-    let mut done: usize = 0;
-    while done < n {
-        let s = numbers::lesser(done + 1, n - done);
-        r = wide(r, Pixels(s));
-        done += s;
+    if by.0 == 0 {
+        return x;
     }
-    r
+    widen_on(wide(x, Pixels(1)), by.0)
 }

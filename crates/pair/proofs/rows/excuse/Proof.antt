@@ -19,15 +19,15 @@ loop-holds c =
     let p = c .before .before .before .before .pre in
     (p .1 .on 0 (omega arith) .1, excused-start _ _ _ _ _ (p .0) (p .2) (p .3) (p .4) _)
 
-mul-excuse-row : tie.Need-mul-excuse-row Inv-loop μ-loop
-mul-excuse-row c =
+mul-take : tie.Need-mul-take Inv-loop μ-loop
+mul-take c =
     let p = c .before .before .before .before .before .before .before .before .before .before .before .pre in
     let a = c .before .before .before .before .before .before .before .before .before .before .before .args in
     let s = c .before .before .before .before .before .before .loop in
     omega (arith, row-byte (a .h) (a .n) (s .y) (p .0 .h-max) (c .before .before .before .before .before .loop-test .taken) (p .4))
 
-excuse-row-requires : tie.Need-excuse-row-requires Inv-loop μ-loop
-excuse-row-requires c κs =
+take-requires : tie.Need-take-requires Inv-loop μ-loop
+take-requires c κs =
     let p = c .before .before .before .before .before .before .before .before .before .before .before .pre in
     let a = c .before .before .before .before .before .before .before .before .before .before .before .args in
     let s = c .before .before .before .before .before .before .loop in
@@ -47,7 +47,7 @@ loop-again c =
     let t = c .before .before .before .before .before .before .before .before .loop-test .taken in
     let o = p .1 .on (s .y + 1) (omega (arith, t)) in
     let r = c .before .before .before .before .before .before .row in
-    let e = c .before .before .excuse-row in (
+    let e = c .before .before .take in (
       o .1,
       excused-next _ _ _ _ _ (p .0) (p .2) (p .3) (p .4) (s .y) _ _ _ t (omega arith) refl
           (excused-row _ _ (column (r .result)) _ _ _ _ (p .4) (e .kept .0) (r .ensures) (e .ensures) (s .inv .1)),
@@ -87,4 +87,4 @@ excuse-spec =
     (λ c. let p = c .before .before .before .before .before .before .before .pre in omega (arith, p .1 .long, p .0 .h-max, c .before .loop-test .taken))
     (λ c. omega (arith, c .before .before .before .before .before .before .before .pre .0 .h-max, c .before .loop-test .taken))
     (λ c κs. let p = c .before .before .before .before .before .before .before .pre in (p .2 .ready .long, omega (arith, p .0 .h-max, c .before .loop-test .taken))) (λ c κs. search needs)
-    mul-excuse-row excuse-row-requires loop-less loop-again loop-less-2 loop-again-2 (λ c. c .before .loop .inv .1 .long) returns)
+    mul-take take-requires loop-less loop-again loop-less-2 loop-again-2 (λ c. c .before .loop .inv .1 .long) returns)
