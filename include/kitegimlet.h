@@ -15,22 +15,33 @@
 
 #include <stdint.h>
 
-#define KG_VERSION "0.3"
+#define KG_VERSION "0.4"
 
 #ifdef __cplusplus
 extern "C" {
 #endif
 
-/* An answer: the refusal number in bits 0 to 15, 0 for none, and values above it. Which values a call gives is said at the call;
- * a refusal carries its place where it has one (9, 10, 11) and else nothing. */
+/* An answer: the refusal number in bits 0 to 15, 0 for none, and values above it. Which values a call gives is said at the call. A
+ * refusal carries its place where it has one and else nothing: 7 and 8 the first row whose padding is set, so layer and row; 9, 10, 11 and 19
+ * a pixel, so layer, row and column. All are counted from 0. */
 typedef uint64_t kg_answer;
 
-/* kg_value means something where the number is 0, the three of the place where it is 9, 10 or 11. */
+/* kg_value means something where the number is 0; kg_layer and kg_row where the place has two parts, kg_column too where it has three. */
 static inline unsigned kg_number(kg_answer a) { return (unsigned)(a & 0xFFFFu); }
 static inline unsigned kg_layer(kg_answer a) { return (unsigned)(a >> 16 & 0xFFFFu); }
 static inline unsigned kg_row(kg_answer a) { return (unsigned)(a >> 32 & 0xFFFFu); }
 static inline unsigned kg_column(kg_answer a) { return (unsigned)(a >> 48 & 0xFFFFu); }
 static inline uint64_t kg_value(kg_answer a) { return a >> 16; }
+
+/* How many parts the place of a refusal has: 3 for a pixel, 2 for a row, 0 where it has no place. */
+static inline unsigned kg_place_parts(kg_answer a)
+{
+    switch (kg_number(a)) {
+    case 7: case 8: return 2;
+    case 9: case 10: case 11: case 19: return 3;
+    default: return 0;
+    }
+}
 
 /* Of sizes that are in range: the bytes of a stack (part or support), and how many ring numbers there are. */
 static inline uint64_t kg_stack_bytes(uint64_t w, uint64_t h, uint64_t n) { return n * h * ((w + 7) / 8); }
@@ -41,7 +52,8 @@ kg_answer kg_reach(uint32_t pitch, uint32_t overhang);
 
 /* Plans support and rings for a part. A pixel is near part where the squares of the differences in rows and in columns, added, are at most
  * overhang * overhang / (pitch * pitch) rounded down, which can be more than the reach squared; kg_check uses the same rule. Support must
- * have the part's length and rings (n - 1) * w * h numbers; what they held does not matter, and all of both is written. Refusals 1 to 7. */
+ * have the part's length and rings (n - 1) * w * h numbers; what they held does not matter, and all of both is written. Refusals 1 to 7, 7 with its
+ * place. */
 kg_answer kg_plan(uint64_t w, uint64_t h, uint64_t n, uint32_t pitch, uint32_t overhang,
                   const uint8_t *part, uint64_t part_len,
                   uint8_t *support, uint64_t support_len,
@@ -52,15 +64,16 @@ kg_answer kg_plan(uint64_t w, uint64_t h, uint64_t n, uint32_t pitch, uint32_t o
  * the part and none that is excused. It holds all of the support, and kg_check accepts it with the same rings. A gap of 0 leaves the
  * support as it is.
  * Support and cleaned must both have the part's length; all three lent buffers are written whole. Refusals 1 to 3, 18 (a radius over 32), 4 to
- * 7; a wrong length of cleaned is 5 too. */
+ * 7, 7 with its place; a wrong length of cleaned is 5 too. */
 kg_answer kg_clean(uint64_t w, uint64_t h, uint64_t n, uint32_t pitch, uint32_t overhang, uint64_t gap,
                    const uint8_t *part, uint64_t part_len,
                    uint8_t *support, uint64_t support_len,
                    uint16_t *rings, uint64_t rings_len,
                    uint8_t *cleaned, uint64_t cleaned_len);
 
-/* Judges support that anyone made: 0 where it holds. Refusals 1 to 8; then 9 (a support pixel inside the part), 10 (a ring number that is
- * wrong) and 11 (a pixel that hangs), each with its first place: kg_layer, kg_row, kg_column. */
+/* Judges support that anyone made: 0 where it holds. Refusals 1 to 8, 7 and 8 with their places; then 9 (a support pixel inside the part),
+ * then 10 (a ring number that is wrong), then 11 (a pixel of the part that hangs) or 19 (one of the support), whichever comes first, each
+ * with its first place. */
 kg_answer kg_check(uint64_t w, uint64_t h, uint64_t n, uint32_t pitch, uint32_t overhang,
                    const uint8_t *part, uint64_t part_len,
                    const uint8_t *support, uint64_t support_len,
@@ -73,7 +86,8 @@ enum kg_told {
 };
 
 /* Reads a job file. Where it is not refused, `told` gets the values of enum kg_told, as many as it has room for; further elements stay.
- * Refusals: 12, 13 and 12 again for each of the four sections in turn, 1, 2, 3 after the first of them; then 14, 7, 8. */
+ * Refusals: 12, 13 and 12 again for each of the four sections in turn, 1, 2, 3 after the first of them; then 14, 7, 8, the
+ * last two with their places. */
 kg_answer kg_read(const uint8_t *file, uint64_t file_len, uint64_t *told, uint64_t told_len);
 
 /* A stretch of a job file: its offset in the upper half, its length in the lower; no job that is read is longer than 75,366,426 bytes.
@@ -91,7 +105,8 @@ kg_stretch kg_support(const uint8_t *file, uint64_t file_len);
 kg_answer kg_copy_rings(const uint8_t *file, uint64_t file_len, uint16_t *rings, uint64_t rings_len);
 
 /* Writes a job at the start of `out` and answers its length: kg_value. Without support its length and that of the rings are 0. A job has
- * 26 + part_len + support_len + 2 * rings_len bytes; bytes of `out` past it stay. Refusals 1 to 8, 15, 16. */
+ * 26 + part_len + support_len + 2 * rings_len bytes; bytes of `out` past it stay. Refusals 1 to 8, 7 and 8 with
+ * their places, 15, 16. */
 kg_answer kg_write(uint64_t w, uint64_t h, uint64_t n, uint32_t pitch, uint32_t overhang,
                    const uint8_t *part, uint64_t part_len,
                    const uint8_t *support, uint64_t support_len,
