@@ -3,11 +3,11 @@ use mathlib.Core.Path.{_≡_, refl}
 use mathlib.Core.List.{List, [], _∷_, map}
 use Prim.Native.Nat.{ℕ}
 use Rattle.rules.specs.Tools.{bit, some, each, joinedUp, first, refusal}
-use Rattle.rules.specs.Images.{within, sized, rowBytes, bitAt, pixel, rowsOf, stackBytes, paddingSet, byteOf, bytesOf, ringsIn, ringAt}
+use Rattle.rules.specs.Images.{within, sized, rowBytes, bitAt, pixel, rowsOf, stackBytes, padded, paddingSet, byteOf, bytesOf, ringsIn, ringAt}
 use Rattle.rules.specs.Reach.{settable, reachOf, square, boundBy, boundOf, apart, distance²}
 use Rattle.rules.specs.Planning.{shadow, near, seeds, reached, touch, source, touching, fits, grow, grown, ringPlane, rings, excused, supportUnder, topOf}
 use Rattle.rules.specs.Planning.{planned, empty, plannedRings, plannedBytes}
-use Rattle.rules.specs.Judging.{overlap, badRing, unheld, firstIn, placeOf, tell, verdict, verdictOf}
+use Rattle.rules.specs.Judging.{overlap, badRing, unheld, unheldNumber, firstIn, placeOf, tell, verdict, verdictOf}
 use Rattle.rules.specs.Calls.{reachCases, reachAnswer, saysReached, settingCases, lengthCases, bothCases, stackCases, planCases, planRefusal, planAnswer}
 use Rattle.rules.specs.Calls.{planSupport, planRings, judgeCases, judgeAnswer, saysPlanned, saysJudged}
 use Rattle.rules.specs.declared.Settings.{Settings}
@@ -74,26 +74,26 @@ pub bench-pieces : map run (
     ∷ says (11 ∷ 1 ∷ 0 ∷ 5 ∷ [])
     ∷ says (9 ∷ 0 ∷ 0 ∷ 2 ∷ [])
     ∷ []
-unfolding bit some each joinedUp first within sized rowBytes bitAt pixel rowsOf stackBytes paddingSet byteOf bytesOf ringsIn ringAt settable reachOf square
+unfolding bit some each joinedUp first within sized rowBytes bitAt pixel rowsOf stackBytes padded paddingSet byteOf bytesOf ringsIn ringAt settable reachOf square
     boundBy boundOf apart distance² shadow near seeds reached touch source touching fits grow grown ringPlane rings excused supportUnder topOf planned empty
-    plannedRings plannedBytes overlap badRing unheld firstIn placeOf tell verdict verdictOf reachCases settingCases lengthCases planCases planRefusal planAnswer
+    plannedRings plannedBytes overlap badRing unheld unheldNumber firstIn placeOf tell verdict verdictOf reachCases settingCases lengthCases planCases planRefusal planAnswer
     planSupport planRings judgeCases bothCases stackCases judgeAnswer settings lent run ringsOfB none
 bench-pieces = refl
 
 -- "one of its eight neighbours": a pixel joined by its corner alone is excused
 pub corner-joins : run (plan 2 2 2 200 (0x80 ∷ 0x00 ∷ 0x80 ∷ 0x40 ∷ [])) ≡ plans (0 ∷ []) (0x00 ∷ 0x00 ∷ 0x00 ∷ 0x00 ∷ []) (0 ∷ 0 ∷ 0 ∷ 1 ∷ [])
-unfolding bit some each joinedUp first within sized rowBytes bitAt pixel rowsOf stackBytes paddingSet byteOf bytesOf ringsIn ringAt settable reachOf square
+unfolding bit some each joinedUp first within sized rowBytes bitAt pixel rowsOf stackBytes padded paddingSet byteOf bytesOf ringsIn ringAt settable reachOf square
     boundBy boundOf apart distance² shadow near seeds reached touch source touching fits grow grown ringPlane rings excused supportUnder topOf planned empty
-    plannedRings plannedBytes overlap badRing unheld firstIn placeOf tell verdict verdictOf reachCases settingCases lengthCases planCases planRefusal planAnswer
+    plannedRings plannedBytes overlap badRing unheld unheldNumber firstIn placeOf tell verdict verdictOf reachCases settingCases lengthCases planCases planRefusal planAnswer
     planSupport planRings judgeCases bothCases stackCases judgeAnswer settings lent run
 corner-joins = refl
 
 -- "a corner is only about 141 away", by a little more: piece h has its corner supported at t 141, and not at t 142
 pub corner-too-far : map (λ t. run (plan 2 2 2 t (0x80 ∷ 0x00 ∷ 0xC0 ∷ 0xC0 ∷ []))) (141 ∷ 142 ∷ [])
     ≡ plans (0 ∷ []) (0x00 ∷ 0x40 ∷ 0x00 ∷ 0x00 ∷ []) (0 ∷ 1 ∷ 1 ∷ 0 ∷ []) ∷ plans (0 ∷ []) (0x00 ∷ 0x00 ∷ 0x00 ∷ 0x00 ∷ []) (0 ∷ 1 ∷ 1 ∷ 1 ∷ []) ∷ []
-unfolding bit some each joinedUp first within sized rowBytes bitAt pixel rowsOf stackBytes paddingSet byteOf bytesOf ringsIn ringAt settable reachOf square
+unfolding bit some each joinedUp first within sized rowBytes bitAt pixel rowsOf stackBytes padded paddingSet byteOf bytesOf ringsIn ringAt settable reachOf square
     boundBy boundOf apart distance² shadow near seeds reached touch source touching fits grow grown ringPlane rings excused supportUnder topOf planned empty
-    plannedRings plannedBytes overlap badRing unheld firstIn placeOf tell verdict verdictOf reachCases settingCases lengthCases planCases planRefusal planAnswer
+    plannedRings plannedBytes overlap badRing unheld unheldNumber firstIn placeOf tell verdict verdictOf reachCases settingCases lengthCases planCases planRefusal planAnswer
     planSupport planRings judgeCases bothCases stackCases judgeAnswer settings lent run
 corner-too-far = refl
 
@@ -101,8 +101,8 @@ corner-too-far = refl
 pub corner-judged :
     map (λ t. saysJudged (judgeAnswer (settings 2 2 2 t) (0x80 ∷ 0x00 ∷ 0xC0 ∷ 0xC0 ∷ []) (0x00 ∷ 0x00 ∷ 0x00 ∷ 0x00 ∷ []) (0 ∷ 1 ∷ 1 ∷ 1 ∷ []))) (141 ∷ 142 ∷ 150 ∷ [])
     ≡ (10 ∷ 1 ∷ 1 ∷ 1 ∷ []) ∷ (0 ∷ []) ∷ (0 ∷ []) ∷ []
-unfolding some first within sized rowBytes bitAt pixel rowsOf stackBytes paddingSet ringsIn ringAt settable reachOf square boundBy boundOf apart distance² shadow near
-    seeds reached touch source touching fits overlap badRing unheld firstIn placeOf tell verdict verdictOf reachCases settingCases lengthCases judgeCases
+unfolding some first within sized rowBytes bitAt pixel rowsOf stackBytes padded paddingSet ringsIn ringAt settable reachOf square boundBy boundOf apart distance² shadow near
+    seeds reached touch source touching fits overlap badRing unheld unheldNumber firstIn placeOf tell verdict verdictOf reachCases settingCases lengthCases judgeCases
     bothCases stackCases judgeAnswer settings
 corner-judged = refl
 
@@ -144,7 +144,7 @@ pub judging-order :
     ∷ checks (0x07 ∷ 0xFF ∷ []) (0xE0 ∷ 0x00 ∷ []) (0 ∷ 0 ∷ 0 ∷ 0 ∷ 1 ∷ 9 ∷ 0 ∷ 0 ∷ [])
     ∷ []
     ≡ (9 ∷ 0 ∷ 0 ∷ 2 ∷ []) ∷ (10 ∷ 1 ∷ 0 ∷ 4 ∷ []) ∷ (10 ∷ 1 ∷ 0 ∷ 4 ∷ []) ∷ []
-unfolding some first within sized rowBytes bitAt pixel rowsOf stackBytes paddingSet ringsIn ringAt settable reachOf square boundBy boundOf apart distance² shadow near
-    seeds reached touch source touching fits overlap badRing unheld firstIn placeOf tell verdict verdictOf reachCases settingCases lengthCases judgeCases
+unfolding some first within sized rowBytes bitAt pixel rowsOf stackBytes padded paddingSet ringsIn ringAt settable reachOf square boundBy boundOf apart distance² shadow near
+    seeds reached touch source touching fits overlap badRing unheld unheldNumber firstIn placeOf tell verdict verdictOf reachCases settingCases lengthCases judgeCases
     bothCases stackCases judgeAnswer settings checks
 judging-order = refl

@@ -13,7 +13,7 @@ use lib.Dec.{ltb, eqb}
 use lib.ListN.{getD, length}
 use lib.Seq.{ext-getD}
 use borrow.Author.Tests.{eqb-true, ltb-true, ltb-false}
-use Rattle.rules.specs.Images.{Stack, rowBytes, bitAt, pixel, paddingSet, byteOf, bytesOf}
+use Rattle.rules.specs.Images.{Stack, rowBytes, bitAt, pixel, padded, paddingSet, byteOf, bytesOf}
 use Rattle.rules.specs.Tools.{bit}
 use Rattle.laws.specs.Tests.{split, clash, some-in, not-in, getD-each, length-each, each-same}
 use Rattle.laws.specs.Places.{digits-in}
@@ -32,7 +32,7 @@ low-zero x d f e =
 
 module _ (w h n : ℕ) (l : List ℕ) (clear : paddingSet w (n * h) l ≡ false) where
   no-padding : (row : ℕ) → row < n * h → getD l (row * rowBytes w + (rowBytes w - 1)) 0 % 2 ^ (8 * rowBytes w - w) ≡ 0
-  unfolding paddingSet
+  unfolding padded paddingSet
   no-padding row lr =
       let T : ℕ → Bool = λ row. eqb (getD l (row * rowBytes w + (rowBytes w - 1)) 0 % 2 ^ (8 * rowBytes w - w)) 0 in
       split (T row) (λ t. eqb-true _ _ t) (λ f. clash (some-in (n * h) (λ row. not (T row)) row lr (not-in (T row) f)) clear)

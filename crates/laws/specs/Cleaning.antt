@@ -4,19 +4,20 @@ use mathlib.Core.Bool.{Bool, true, false, not, _&&_, _||_}
 use mathlib.Core.List.{List, [], _∷_}
 use Prim.Native.Nat.{ℕ, zero, suc, _-_, _*_, _<_}
 use native.Mathlib.Omega.{arith}
-use lib.ListN.{length}
+use lib.ListN.{length, getD}
 use Rattle.rules.specs.Tools.{answer}
 use Rattle.rules.specs.Images.{Plane, Stack, pixel, ringAt}
 use Rattle.rules.specs.Reach.{boundOf}
 use Rattle.rules.specs.Planning.{excused, plannedRings, plannedBytes}
 use Rattle.rules.specs.Cleaning.{discOf, closed, cleanedBytes}
-use Rattle.rules.specs.Calls.{saysPlanned, saysJudged, planRefusal, planAnswer, planSupport, planRings, cleanRefusal, cleanAnswer, cleanSupport, cleanRings, cleanCleaned}
+use Rattle.rules.specs.Calls.{saysRefusal, refused, saysPlanned, saysJudged, planRefusal, planAnswer, planSupport, planRings, cleanRefusal, cleanAnswer, cleanSupport, cleanRings, cleanCleaned}
 use Rattle.rules.specs.Outcomes.{Plans, Cleans, Judges}
 use Rattle.rules.specs.declared.Settings.{Settings}
 use Rattle.rules.specs.declared.Pixels.{Pixels}
 use Rattle.rules.specs.declared.Planned.{Planned}
 use Rattle.rules.specs.declared.Planned.the-variants.{Done, Refused}
 use Rattle.rules.specs.declared.Judged.{Judged}
+use Rattle.laws.specs.Padding.{refused-number}
 use Rattle.laws.specs.Refusals.{answer-fine, answer-refused}
 use Rattle.laws.specs.StackTables.{plan-exactly, clean-exactly}
 use Rattle.laws.specs.Limits.{ranged}
@@ -41,26 +42,26 @@ module _ (s : Settings) (c : Pixels) (part sup ring clean : List ℕ) where
       × (cleanCleaned s c part sup ring clean ≡ cleanedBytes (s .w) (s .h) (s .n) (boundOf s) c part)
   unfolding cleanAnswer cleanSupport cleanRings cleanCleaned
   clean-fills e =
-      (ap saysPlanned (answer-fine r Done Refused e), answer-fine r _ (λ k. sup) e, answer-fine r _ (λ k. ring) e, answer-fine r _ (λ k. clean) e)
+      (ap saysPlanned (answer-fine r Done (λ k. Refused (refused s part [] k)) e), answer-fine r _ (λ k. sup) e, answer-fine r _ (λ k. ring) e, answer-fine r _ (λ k. clean) e)
 
-  -- refused: the number, and all lent memory as it was found
+  -- refused: the number with its place, and all lent memory as it was found
   pub clean-keeps : (r ≡ 0 → ⊥) →
-      (saysPlanned (cleanAnswer s c part (length sup) (length ring) (length clean)) ≡ r ∷ [])
+      (saysPlanned (cleanAnswer s c part (length sup) (length ring) (length clean)) ≡ saysRefusal (refused s part [] r))
       × (cleanSupport s c part sup ring clean ≡ sup)
       × (cleanRings s c part sup ring clean ≡ ring)
       × (cleanCleaned s c part sup ring clean ≡ clean)
   unfolding cleanAnswer cleanSupport cleanRings cleanCleaned
   clean-keeps n =
-      (ap saysPlanned (answer-refused r Done Refused n), answer-refused r _ (λ k. sup) n, answer-refused r _ (λ k. ring) n, answer-refused r _ (λ k. clean) n)
+      (ap saysPlanned (answer-refused r Done (λ k. Refused (refused s part [] k)) n), answer-refused r _ (λ k. sup) n, answer-refused r _ (λ k. ring) n, answer-refused r _ (λ k. clean) n)
 
   -- an answer of 0 is one that is not refused
   fine : (a : Planned) → a ≡ cleanAnswer s c part (length sup) (length ring) (length clean) → saysPlanned a ≡ 0 ∷ [] → r ≡ 0
   unfolding cleanAnswer
   fine a x e = go r (sym (ap saysPlanned x) ∙ e)
     where
-      go : (k : ℕ) → saysPlanned (answer k Done Refused) ≡ 0 ∷ [] → k ≡ 0
+      go : (k : ℕ) → saysPlanned (answer k Done (λ j. Refused (refused s part [] j))) ≡ 0 ∷ [] → k ≡ 0
       go zero h = refl
-      go (suc k) h = let y : _≡_ {A = ℕ} (suc k) 0 = cc in y
+      go (suc k) h = sym (refused-number s part [] (suc k)) ∙ ap (λ (l : List ℕ). getD l 0 0) h
 
 -- Rules 10.5 and 10.6, pixel by pixel -------------------------------------------------------------------------------------
 
@@ -115,7 +116,7 @@ module _ (s : Settings) (c : Pixels) (part sup ring clean : List ℕ) (a : Plann
       let (z, l, y) = clean-exactly s c part (length sup) (length ring) (length clean) .0 none in
       let f = clean-fills s c part sup ring clean none in
       record {
-        answer = sym (answer-fine (planRefusal s part (length sup) (length ring)) Done Refused z);
+        answer = sym (answer-fine (planRefusal s part (length sup) (length ring)) Done (λ k. Refused (refused s part [] k)) z);
         support = x .support ∙ f .1 ∙ sym (answer-fine (planRefusal s part (length sup) (length ring)) _ (λ k. sup) z);
         rings = x .rings ∙ f .2 ∙ sym (answer-fine (planRefusal s part (length sup) (length ring)) _ (λ k. ring) z);
       }

@@ -10,7 +10,7 @@ use lib.ListN.{length}
 use Rattle.rules.specs.Images.{Plane, pixel, ringAt}
 use Rattle.rules.specs.Reach.{boundOf}
 use Rattle.rules.specs.Planning.{shadow, near, seeds, reached, touch, planned, empty, plannedRings, plannedBytes, swallowed, growingSwallow, regionSubtraction}
-use Rattle.rules.specs.Calls.{saysPlanned, planRefusal, planAnswer, planSupport, planRings}
+use Rattle.rules.specs.Calls.{saysRefusal, refused, saysPlanned, planRefusal, planAnswer, planSupport, planRings}
 use Rattle.rules.specs.Demands.{JoinedBy, Excused}
 use Rattle.rules.specs.declared.Settings.{Settings}
 use Rattle.rules.specs.declared.Planned.the-variants.{Done, Refused}
@@ -31,13 +31,13 @@ module _ (s : Settings) (part sup ring : List ℕ) where
       × (planSupport s part sup ring ≡ plannedBytes (s .w) (s .h) (s .n) (boundOf s) part)
       × (planRings s part sup ring ≡ plannedRings (s .w) (s .h) (s .n) (boundOf s) part)
   unfolding planAnswer planSupport planRings
-  plan-fills e = (ap saysPlanned (answer-fine r Done Refused e), answer-fine r _ (λ k. sup) e, answer-fine r _ (λ k. ring) e)
+  plan-fills e = (ap saysPlanned (answer-fine r Done (λ k. Refused (refused s part [] k)) e), answer-fine r _ (λ k. sup) e, answer-fine r _ (λ k. ring) e)
 
-  -- refused: the number, and all lent memory as it was found
+  -- refused: the number with its place, and all lent memory as it was found
   pub plan-keeps : (r ≡ 0 → ⊥) →
-      (saysPlanned (planAnswer s part (length sup) (length ring)) ≡ r ∷ []) × (planSupport s part sup ring ≡ sup) × (planRings s part sup ring ≡ ring)
+      (saysPlanned (planAnswer s part (length sup) (length ring)) ≡ saysRefusal (refused s part [] r)) × (planSupport s part sup ring ≡ sup) × (planRings s part sup ring ≡ ring)
   unfolding planAnswer planSupport planRings
-  plan-keeps n = (ap saysPlanned (answer-refused r Done Refused n), answer-refused r _ (λ k. sup) n, answer-refused r _ (λ k. ring) n)
+  plan-keeps n = (ap saysPlanned (answer-refused r Done (λ k. Refused (refused s part [] k)) n), answer-refused r _ (λ k. sup) n, answer-refused r _ (λ k. ring) n)
 
 -- The chapter's rules ------------------------------------------------------------------------------------------------------
 

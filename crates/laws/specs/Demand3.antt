@@ -12,11 +12,11 @@ use lib.Dec.{eqb}
 use lib.ListN.{length, getD}
 use borrow.Author.Tests.{eq-eqb, le-ltb}
 use Rattle.rules.specs.Tools.{refusal, answer, bit, some}
-use Rattle.rules.specs.Images.{Stack, rowBytes, pixel, rowsOf, stackBytes, paddingSet, byteOf, bytesOf, ringsIn, ringAt}
+use Rattle.rules.specs.Images.{Stack, rowBytes, pixel, rowsOf, stackBytes, padded, paddingSet, byteOf, bytesOf, ringsIn, ringAt}
 use Rattle.rules.specs.Reach.{boundOf}
 use Rattle.rules.specs.Planning.{rings, plannedRings, plannedBytes}
 use Rattle.rules.specs.Judging.{verdict, verdictOf}
-use Rattle.rules.specs.Calls.{saysPlanned, saysJudged, settingCases, planRefusal, planAnswer, planSupport, planRings, judgeCases, judgeAnswer}
+use Rattle.rules.specs.Calls.{refused, saysPlanned, saysJudged, settingCases, planRefusal, planAnswer, planSupport, planRings, judgeCases, judgeAnswer}
 use Rattle.rules.specs.Outcomes.{Plans, Judges}
 use Rattle.rules.specs.Demands.{Sound, Words}
 use Rattle.rules.specs.declared.Settings.{Settings}
@@ -24,6 +24,7 @@ use Rattle.rules.specs.declared.Planned.{Planned}
 use Rattle.rules.specs.declared.Planned.the-variants.{Done, Refused as NotPlanned}
 use Rattle.rules.specs.declared.Judged.{Judged}
 use Rattle.rules.specs.declared.Judged.the-variants.{Accepted}
+use Rattle.laws.specs.Padding.{refused-number}
 use Rattle.laws.specs.Tests.{split, clash, not-out, some-out, getD-each, length-each}
 use Rattle.laws.specs.Places.{accepted-in}
 use Rattle.laws.specs.StackTables.{Both, plan-exactly, judge-exactly}
@@ -60,7 +61,7 @@ row-clear w h n s row lw lr =
     rw (g, e) (mul-mod-left (byteOf w h s row (b - 1) c) (2 ^ d))
 
 pub bytesOf-clear : (w h n : ℕ) (s : Stack) → 0 < w → paddingSet w (n * h) (bytesOf w h n s) ≡ false
-unfolding paddingSet
+unfolding padded paddingSet
 bytesOf-clear w h n s lw =
     let T : ℕ → Bool = λ row. not (eqb (getD (bytesOf w h n s) (row * rowBytes w + (rowBytes w - 1)) 0 % 2 ^ (8 * rowBytes w - w)) 0) in
     split (some (n * h) T)
@@ -158,11 +159,11 @@ unfolding planAnswer planSupport planRings
 plan-left-accepted s part sup ring r sup′ ring′ v x e y =
     rw (y .answer, x .support, x .rings) (go (planRefusal s part (length sup) (length ring)) refl (sym (ap saysPlanned (x .answer)) ∙ e))
   where
-    go : (r : ℕ) → planRefusal s part (length sup) (length ring) ≡ r → saysPlanned (answer r Done NotPlanned) ≡ 0 ∷ [] →
+    go : (r : ℕ) → planRefusal s part (length sup) (length ring) ≡ r → saysPlanned (answer r Done (λ k. NotPlanned (refused s part [] k))) ≡ 0 ∷ [] →
         saysJudged (judgeAnswer s part (answer r (plannedBytes (s .w) (s .h) (s .n) (boundOf s) part) (λ k. sup)) (answer r (plannedRings (s .w) (s .h) (s .n) (boundOf s) part) (λ k. ring))) ≡ 0
         ∷ []
     go zero z h = plan-accepted s part (length sup) (length ring) z
-    go (suc r) z h = absurd (let y : _≡_ {A = ℕ} (suc r) 0 = cc in omega arith)
+    go (suc r) z h = absurd (let y : suc r ≡ 0 = sym (refused-number s part [] (suc r)) ∙ ap (λ (l : List ℕ). getD l 0 0) h in omega arith)
 
 -- "and every accepted stack contains all of the planned support"
 pub plan-least : (s : Settings) (part sup l : List ℕ) → saysJudged (judgeAnswer s part sup l) ≡ 0 ∷ [] →

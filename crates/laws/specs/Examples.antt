@@ -6,19 +6,19 @@ use mathlib.Core.Bool.{Bool, true, false}
 use Prim.Native.Nat.{ℕ}
 use lib.ListN.{getD, take, drop, set}
 use Rattle.rules.specs.Tools.{bit, some, count, largest, each, joinedUp, first}
-use Rattle.rules.specs.Images.{Rings, within, sized, rowBytes, bitAt, pixel, rowsOf, stackBytes, paddingSet, byteOf, bytesOf, ringsIn, ringAt}
+use Rattle.rules.specs.Images.{Rings, within, sized, rowBytes, bitAt, pixel, rowsOf, stackBytes, padded, paddingSet, firstPadded, byteOf, bytesOf, ringsIn, ringAt}
 use Rattle.rules.specs.Reach.{settable, reachOf, square, boundBy, boundOf, apart, distance², root, halfWidth}
 use Rattle.rules.specs.Planning.{shadow, near, seeds, reached, touch, source, touching, fits, grow, grown, ringPlane, rings, excused, supportUnder, topOf}
 use Rattle.rules.specs.Planning.{planned, empty, plannedRings, plannedBytes, dilated, swallowed, growingSwallow, regionSubtraction}
 use Rattle.rules.specs.Cleaning.{discOf, eroded, closed, cleanedUnder, cleaned, cleanedBytes, regionSubtractionFDM}
-use Rattle.rules.specs.Judging.{overlap, badRing, unheld, firstIn, placeOf, tell, verdict, verdictOf}
+use Rattle.rules.specs.Judging.{overlap, badRing, unheld, unheldNumber, firstIn, placeOf, tell, verdict, verdictOf}
 use Rattle.rules.specs.Jobs.{Job, be16, be32, put16, put32, get16s, put16s, headEnd, partEnd, supportCount, supportEnd, ringCount, jobEnd, settingsIn, storedIn}
 use Rattle.rules.specs.Jobs.{partIn, supportIn, ringsStored, layoutOf, storedRows, fileOf, fileLength}
 use Rattle.rules.specs.Calls.{saysPlanned, saysJudged, saysRead, saysCopied, saysWritten, reachCases, settingCases, lengthCases, bothCases, stackCases}
-use Rattle.rules.specs.Calls.{cleanCases, cleanRefusal, cleanAnswer, cleanCleaned}
+use Rattle.rules.specs.Calls.{tellRow, refused, refusedIn, cleanCases, cleanRefusal, cleanAnswer, cleanCleaned}
 use Rattle.rules.specs.Calls.{planCases, planRefusal, planAnswer, planSupport, planRings, judgeCases, judgeAnswer, sectionCases, readCases, readRefusal}
 use Rattle.rules.specs.Calls.{readAnswer, partAnswer, supportAnswer, copyCases, copyAnswer, copyRings, writeCases, writeRefusal, writeAnswer}
-use Rattle.rules.specs.Report.{digits, decimal, spaced, refusedLine, jobLine, filled, excusedAbove, layerLine, planLines, reportCases, reportOf}
+use Rattle.rules.specs.Report.{digits, decimal, spaced, allSpaced, refusedLine, jobLine, filled, excusedAbove, layerLine, planLines, reportCases, reportOf}
 use Rattle.rules.specs.declared.Settings.{Settings}
 
 pub settings : ℕ → ℕ → ℕ → ℕ → ℕ → Settings
@@ -41,7 +41,7 @@ pub plans-rows :
     ≡ ((0x00 ∷ 0x00 ∷ 0x00 ∷ 0x00 ∷ 0x00 ∷ 0x00 ∷ []) ∷ (0 ∷ 1 ∷ 2 ∷ 1 ∷ 1 ∷ 2 ∷ 2 ∷ 2 ∷ 2 ∷ []) ∷ [])
     ∷ ((0x1F ∷ 0x80 ∷ 0x00 ∷ 0x80 ∷ 0x00 ∷ 0x00 ∷ 0x00 ∷ 0x00 ∷ []) ∷ (0 ∷ 1 ∷ 2 ∷ 0 ∷ 0 ∷ 0 ∷ 0 ∷ 0 ∷ 0 ∷ 0 ∷ 0 ∷ 0 ∷ 0 ∷ 0 ∷ 0 ∷ 0 ∷ 0 ∷ 0 ∷ []) ∷ [])
     ∷ []
-unfolding bit some each joinedUp within sized rowBytes bitAt pixel rowsOf stackBytes paddingSet byteOf bytesOf ringsIn ringAt settable reachOf square boundBy boundOf
+unfolding bit some each joinedUp within sized rowBytes bitAt pixel rowsOf stackBytes padded paddingSet byteOf bytesOf ringsIn ringAt settable reachOf square boundBy boundOf
     apart distance² shadow near seeds reached touch source touching fits grow grown ringPlane rings excused supportUnder topOf planned empty plannedRings
     plannedBytes reachCases settingCases lengthCases planCases stackCases planRefusal planSupport planRings settings leaves
 plans-rows = refl
@@ -54,7 +54,7 @@ pub plans-paths :
     ≡ ((0x00 ∷ 0x00 ∷ []) ∷ (0 ∷ 1 ∷ 2 ∷ 3 ∷ 4 ∷ 0 ∷ 0 ∷ 0 ∷ []) ∷ [])
     ∷ ((0x00 ∷ 0x00 ∷ 0x00 ∷ 0x00 ∷ 0x00 ∷ 0x00 ∷ []) ∷ (0 ∷ 1 ∷ 2 ∷ 3 ∷ 4 ∷ 5 ∷ 0 ∷ 0 ∷ 0 ∷ 0 ∷ 0 ∷ 5 ∷ 10 ∷ 9 ∷ 8 ∷ 7 ∷ 6 ∷ 6 ∷ []) ∷ [])
     ∷ []
-unfolding bit some each joinedUp within sized rowBytes bitAt pixel rowsOf stackBytes paddingSet byteOf bytesOf ringsIn ringAt settable reachOf square boundBy boundOf
+unfolding bit some each joinedUp within sized rowBytes bitAt pixel rowsOf stackBytes padded paddingSet byteOf bytesOf ringsIn ringAt settable reachOf square boundBy boundOf
     apart distance² shadow near seeds reached touch source touching fits grow grown ringPlane rings excused supportUnder topOf planned empty plannedRings
     plannedBytes reachCases settingCases lengthCases planCases stackCases planRefusal planSupport planRings settings leaves
 plans-paths = refl
@@ -114,9 +114,9 @@ pub plan-numbers :
     ∷ plan-says (settings 7 1 2 10 320) (0 ∷ 1 ∷ []) 2 7
     ∷ plan-says (settings 7 1 2 10 320) (2 ∷ 2 ∷ []) 2 7
     ∷ []
-    ≡ (1 ∷ []) ∷ (2 ∷ []) ∷ (3 ∷ []) ∷ (4 ∷ []) ∷ (5 ∷ []) ∷ (6 ∷ []) ∷ (7 ∷ []) ∷ (0 ∷ []) ∷ []
-unfolding some within sized rowBytes rowsOf stackBytes paddingSet ringsIn settable reachOf reachCases settingCases lengthCases planCases stackCases planRefusal
-    planAnswer settings plan-says
+    ≡ (1 ∷ []) ∷ (2 ∷ []) ∷ (3 ∷ []) ∷ (4 ∷ []) ∷ (5 ∷ []) ∷ (6 ∷ []) ∷ (7 ∷ 1 ∷ 0 ∷ []) ∷ (0 ∷ []) ∷ []
+unfolding some first within sized rowBytes rowsOf stackBytes padded paddingSet firstPadded ringsIn settable reachOf reachCases settingCases lengthCases planCases stackCases
+    planRefusal tellRow refused planAnswer settings plan-says
 plan-numbers = refl
 
 -- Cleaning ---------------------------------------------------------------------------------------------------------------
@@ -138,7 +138,7 @@ pub clean-pieces :
     ∷ cleans (settings 8 1 2 100 100) 0 (0x10 ∷ 0xF7 ∷ [])
     ∷ []
     ≡ (0xFF ∷ 0x00 ∷ []) ∷ (0xC7 ∷ 0x00 ∷ []) ∷ (0xFF ∷ 0x00 ∷ []) ∷ (0xFF ∷ 0x00 ∷ []) ∷ (0xCF ∷ 0x00 ∷ []) ∷ (0xC7 ∷ 0x00 ∷ []) ∷ []
-unfolding bit some each joinedUp within sized rowBytes bitAt pixel rowsOf stackBytes paddingSet byteOf bytesOf ringsIn ringAt settable reachOf square boundBy boundOf
+unfolding bit some each joinedUp within sized rowBytes bitAt pixel rowsOf stackBytes padded paddingSet byteOf bytesOf ringsIn ringAt settable reachOf square boundBy boundOf
     apart distance² shadow near seeds reached touch source touching fits grow grown ringPlane rings excused supportUnder topOf planned empty plannedRings
     discOf eroded closed cleanedUnder cleaned cleanedBytes reachCases settingCases cleanCases cleanRefusal cleanCleaned settings cleans
 clean-pieces = refl
@@ -150,7 +150,7 @@ pub cleans-around :
     ∷ cleans (settings 8 1 3 100 200) 1 (0x07 ∷ 0x00 ∷ 0xE7 ∷ [])
     ∷ []
     ≡ (0xEF ∷ 0x00 ∷ []) ∷ (0xE3 ∷ 0x00 ∷ []) ∷ (0xF8 ∷ 0xFF ∷ 0x00 ∷ []) ∷ []
-unfolding bit some each joinedUp within sized rowBytes bitAt pixel rowsOf stackBytes paddingSet byteOf bytesOf ringsIn ringAt settable reachOf square boundBy boundOf
+unfolding bit some each joinedUp within sized rowBytes bitAt pixel rowsOf stackBytes padded paddingSet byteOf bytesOf ringsIn ringAt settable reachOf square boundBy boundOf
     apart distance² shadow near seeds reached touch source touching fits grow grown ringPlane rings excused supportUnder topOf planned empty plannedRings
     discOf eroded closed cleanedUnder cleaned cleanedBytes reachCases settingCases cleanCases cleanRefusal cleanCleaned settings cleans
 cleans-around = refl
@@ -158,7 +158,7 @@ cleans-around = refl
 -- a frame about three by three pixels: c 1 closes the corners, for its disc has no corners itself, and c 2 all
 pub cleans-frame : map (λ c. take 5 (cleans (settings 5 5 2 100 200) c (0x00 ∷ 0x00 ∷ 0x00 ∷ 0x00 ∷ 0x00 ∷ 0xF8 ∷ 0x88 ∷ 0x88 ∷ 0x88 ∷ 0xF8 ∷ []))) (1 ∷ 2 ∷ [])
     ≡ (0xF8 ∷ 0xD8 ∷ 0x88 ∷ 0xD8 ∷ 0xF8 ∷ []) ∷ (0xF8 ∷ 0xF8 ∷ 0xF8 ∷ 0xF8 ∷ 0xF8 ∷ []) ∷ []
-unfolding bit some each joinedUp within sized rowBytes bitAt pixel rowsOf stackBytes paddingSet byteOf bytesOf ringsIn ringAt settable reachOf square boundBy boundOf
+unfolding bit some each joinedUp within sized rowBytes bitAt pixel rowsOf stackBytes padded paddingSet byteOf bytesOf ringsIn ringAt settable reachOf square boundBy boundOf
     apart distance² shadow near seeds reached touch source touching fits grow grown ringPlane rings excused supportUnder topOf planned empty plannedRings
     discOf eroded closed cleanedUnder cleaned cleanedBytes reachCases settingCases cleanCases cleanRefusal cleanCleaned settings cleans
 cleans-frame = refl
@@ -171,7 +171,7 @@ pub closes-discs :
     ∷ cleans (settings 9 1 2 100 100) 3 (0x00 ∷ 0x00 ∷ 0x80 ∷ 0x80 ∷ [])
     ∷ []
     ≡ (0xFE ∷ 0xEE ∷ 0xC6 ∷ 0x82 ∷ 0xC6 ∷ 0xEE ∷ 0xFE ∷ []) ∷ (0xFF ∷ 0x00 ∷ []) ∷ (0x80 ∷ 0x80 ∷ 0x00 ∷ 0x00 ∷ []) ∷ []
-unfolding bit some each joinedUp within sized rowBytes bitAt pixel rowsOf stackBytes paddingSet byteOf bytesOf ringsIn ringAt settable reachOf square boundBy boundOf
+unfolding bit some each joinedUp within sized rowBytes bitAt pixel rowsOf stackBytes padded paddingSet byteOf bytesOf ringsIn ringAt settable reachOf square boundBy boundOf
     apart distance² shadow near seeds reached touch source touching fits grow grown ringPlane rings excused supportUnder topOf planned empty plannedRings
     discOf eroded closed cleanedUnder cleaned cleanedBytes reachCases settingCases cleanCases cleanRefusal cleanCleaned settings cleans
 closes-discs = refl
@@ -201,8 +201,9 @@ pub clean-numbers :
     ∷ clean-says (settings 7 1 2 10 320) 32 (0 ∷ 1 ∷ []) 2 7 2
     ∷ clean-says (settings 7 1 2 10 320) 32 (2 ∷ 2 ∷ []) 2 7 2
     ∷ []
-    ≡ (1 ∷ []) ∷ (2 ∷ []) ∷ (3 ∷ []) ∷ (18 ∷ []) ∷ (4 ∷ []) ∷ (5 ∷ []) ∷ (5 ∷ []) ∷ (6 ∷ []) ∷ (7 ∷ []) ∷ (0 ∷ []) ∷ []
-unfolding some within sized rowBytes rowsOf stackBytes paddingSet ringsIn settable reachOf reachCases settingCases cleanCases cleanRefusal cleanAnswer settings clean-says
+    ≡ (1 ∷ []) ∷ (2 ∷ []) ∷ (3 ∷ []) ∷ (18 ∷ []) ∷ (4 ∷ []) ∷ (5 ∷ []) ∷ (5 ∷ []) ∷ (6 ∷ []) ∷ (7 ∷ 1 ∷ 0 ∷ []) ∷ (0 ∷ []) ∷ []
+unfolding some first within sized rowBytes rowsOf stackBytes padded paddingSet firstPadded ringsIn settable reachOf reachCases settingCases cleanCases cleanRefusal tellRow
+    refused cleanAnswer settings clean-says
 clean-numbers = refl
 
 -- Judging ----------------------------------------------------------------------------------------------------------------
@@ -210,7 +211,7 @@ clean-numbers = refl
 pub judge-says : Settings → List ℕ → List ℕ → List ℕ → List ℕ
 judge-says s part sup ring = saysJudged (judgeAnswer s part sup ring)
 
--- 4 to 11, each with what comes after it wrong as well where that can be; support that hangs; and padding in the second layer only
+-- 4 to 11 and 19, each with what comes after it wrong as well where that can be; and padding in the second layer only
 pub judge-numbers :
     judge-says (settings 7 1 2 10 0) (1 ∷ []) [] []
     ∷ judge-says (settings 7 1 2 10 0) (1 ∷ 1 ∷ []) (1 ∷ []) []
@@ -225,16 +226,41 @@ pub judge-numbers :
     ∷ judge-says (settings 7 1 2 10 0) (2 ∷ 1 ∷ []) (4 ∷ 1 ∷ []) (each 0 7 (λ x. 0))
     ∷ judge-says (settings 7 1 2 10 0) (2 ∷ 2 ∷ []) (4 ∷ 1 ∷ []) (each 0 7 (λ x. 0))
     ∷ []
-    ≡ (4 ∷ []) ∷ (5 ∷ []) ∷ (6 ∷ []) ∷ (7 ∷ []) ∷ (8 ∷ []) ∷ (0 ∷ []) ∷ (11 ∷ 2 ∷ 1 ∷ 1 ∷ []) ∷ (10 ∷ 2 ∷ 1 ∷ 1 ∷ []) ∷ (9 ∷ 2 ∷ 1 ∷ 0 ∷ []) ∷ (11 ∷ 1 ∷ 0 ∷ 4 ∷ []) ∷ (7 ∷ []) ∷ (8 ∷ []) ∷ []
-unfolding some each first within sized rowBytes bitAt pixel rowsOf stackBytes paddingSet ringsIn ringAt settable reachOf square boundBy boundOf apart distance² shadow
-    near seeds reached touch source touching fits overlap badRing unheld firstIn placeOf tell verdict verdictOf reachCases settingCases lengthCases judgeCases
-    bothCases stackCases judgeAnswer settings judge-says
+    ≡ (4 ∷ []) ∷ (5 ∷ []) ∷ (6 ∷ []) ∷ (7 ∷ 0 ∷ 0 ∷ []) ∷ (8 ∷ 0 ∷ 0 ∷ []) ∷ (0 ∷ []) ∷ (11 ∷ 2 ∷ 1 ∷ 1 ∷ []) ∷ (10 ∷ 2 ∷ 1 ∷ 1 ∷ []) ∷ (9 ∷ 2 ∷ 1 ∷ 0 ∷ []) ∷ (19 ∷ 1 ∷ 0 ∷ 4 ∷ [])
+    ∷ (7 ∷ 1 ∷ 0 ∷ []) ∷ (8 ∷ 1 ∷ 0 ∷ []) ∷ []
+unfolding some each first within sized rowBytes bitAt pixel rowsOf stackBytes padded paddingSet firstPadded ringsIn ringAt settable reachOf square boundBy boundOf apart distance² shadow
+    near seeds reached touch source touching fits overlap badRing unheld unheldNumber firstIn placeOf tell verdict verdictOf reachCases settingCases lengthCases judgeCases
+    bothCases stackCases tellRow refused judgeAnswer settings judge-says
 judge-numbers = refl
+
+-- "the first place still decides which is told": a hanging pixel of support before one of the part, and after it, in one row and in two layers
+pub hanging-first :
+    judge-says (settings 8 1 2 100 0) (0x80 ∷ 0x82 ∷ []) (0x00 ∷ 0x08 ∷ []) (each 0 8 (λ x. 0))
+    ∷ judge-says (settings 8 1 2 100 0) (0x80 ∷ 0x88 ∷ []) (0x00 ∷ 0x02 ∷ []) (each 0 8 (λ x. 0))
+    ∷ judge-says (settings 8 1 3 100 0) (0x80 ∷ 0x80 ∷ 0xC0 ∷ []) (0x00 ∷ 0x01 ∷ 0x01 ∷ []) (each 0 16 (λ x. 0))
+    ∷ judge-says (settings 8 1 3 100 0) (0x80 ∷ 0x81 ∷ 0x81 ∷ []) (0x00 ∷ 0x00 ∷ 0x40 ∷ []) (each 0 16 (λ x. 0))
+    ∷ []
+    ≡ (19 ∷ 1 ∷ 0 ∷ 4 ∷ []) ∷ (11 ∷ 1 ∷ 0 ∷ 4 ∷ []) ∷ (19 ∷ 1 ∷ 0 ∷ 7 ∷ []) ∷ (11 ∷ 1 ∷ 0 ∷ 7 ∷ []) ∷ []
+unfolding some each first within sized rowBytes bitAt pixel rowsOf stackBytes padded paddingSet ringsIn ringAt settable reachOf square boundBy boundOf apart distance² shadow
+    near seeds reached touch source touching fits overlap badRing unheld unheldNumber firstIn placeOf tell verdict verdictOf reachCases settingCases lengthCases judgeCases
+    bothCases stackCases judgeAnswer settings judge-says
+hanging-first = refl
+
+-- "layer and row of the first bad padding", in three layers of two rows with five columns: of the part, of the support, and of the part where both are bad
+pub padding-first-row :
+    judge-says (settings 5 2 3 100 0) (0 ∷ 0 ∷ 0 ∷ 4 ∷ 1 ∷ 0 ∷ []) (each 0 6 (λ x. 0)) (each 0 20 (λ x. 0))
+    ∷ judge-says (settings 5 2 3 100 0) (each 0 6 (λ x. 8)) (0 ∷ 0 ∷ 0 ∷ 0 ∷ 2 ∷ 1 ∷ []) (each 0 20 (λ x. 0))
+    ∷ judge-says (settings 5 2 3 100 0) (0 ∷ 0 ∷ 0 ∷ 0 ∷ 0 ∷ 7 ∷ []) (7 ∷ 0 ∷ 0 ∷ 0 ∷ 0 ∷ 0 ∷ []) (each 0 20 (λ x. 0))
+    ∷ []
+    ≡ (7 ∷ 1 ∷ 1 ∷ []) ∷ (8 ∷ 2 ∷ 0 ∷ []) ∷ (7 ∷ 2 ∷ 1 ∷ []) ∷ []
+unfolding some each first within sized rowBytes rowsOf stackBytes padded paddingSet firstPadded ringsIn settable reachOf reachCases settingCases lengthCases judgeCases
+    bothCases stackCases tellRow refused judgeAnswer settings judge-says
+padding-first-row = refl
 
 -- "A ring need not be the smallest to be accepted."
 pub larger-ring : judge-says (settings 1 4 2 100 100) (0x80 ∷ 0x00 ∷ 0x00 ∷ 0x80 ∷ 0x80 ∷ 0x80 ∷ 0x80 ∷ 0x80 ∷ []) (each 0 8 (λ x. 0)) (0 ∷ 1 ∷ 2 ∷ 0 ∷ []) ≡ 0 ∷ []
-unfolding some each first within sized rowBytes bitAt pixel rowsOf stackBytes paddingSet ringsIn ringAt settable reachOf square boundBy boundOf apart distance² shadow
-    near seeds reached touch source touching fits overlap badRing unheld firstIn placeOf tell verdict verdictOf reachCases settingCases lengthCases judgeCases
+unfolding some each first within sized rowBytes bitAt pixel rowsOf stackBytes padded paddingSet ringsIn ringAt settable reachOf square boundBy boundOf apart distance² shadow
+    near seeds reached touch source touching fits overlap badRing unheld unheldNumber firstIn placeOf tell verdict verdictOf reachCases settingCases lengthCases judgeCases
     bothCases stackCases judgeAnswer settings judge-says
 larger-ring = refl
 
@@ -255,7 +281,7 @@ jobB = record { settings = settings 8 1 2 100 200; part = 0xE0 ∷ 0xFF ∷ []; 
 -- the file and what its calls give: settings, support stored, the four offsets; part, support and rings
 pub file-told : fileOf jobB ∷ saysRead (readAnswer fileB) ∷ partAnswer fileB ∷ supportAnswer fileB ∷ copyRings fileB (each 0 8 (λ x. 9)) ∷ saysWritten (writeAnswer jobB 46) ∷ []
     ≡ fileB ∷ (0 ∷ 8 ∷ 1 ∷ 2 ∷ 100 ∷ 200 ∷ 1 ∷ 4 ∷ 18 ∷ 24 ∷ 30 ∷ []) ∷ (0xE0 ∷ 0xFF ∷ []) ∷ (0x07 ∷ 0x00 ∷ []) ∷ (0 ∷ 0 ∷ 0 ∷ 1 ∷ 2 ∷ 0 ∷ 0 ∷ 0 ∷ []) ∷ (0 ∷ 46 ∷ []) ∷ []
-unfolding some each within sized rowBytes rowsOf stackBytes paddingSet ringsIn settable reachOf headEnd partEnd supportCount supportEnd ringCount jobEnd
+unfolding some each within sized rowBytes rowsOf stackBytes padded paddingSet ringsIn settable reachOf headEnd partEnd supportCount supportEnd ringCount jobEnd
     settingsIn storedIn partIn supportIn ringsStored layoutOf storedRows fileOf fileLength reachCases settingCases sectionCases readCases readRefusal readAnswer
     partAnswer supportAnswer copyCases copyRings writeCases bothCases stackCases lengthCases writeRefusal writeAnswer settings fileB jobB
 file-told = refl
@@ -277,7 +303,7 @@ pub large-counts : (part sup ring : List ℕ) →
     ∷ []
     ≡ (0 ∷ 1 ∷ 0 ∷ 0 ∷ []) ∷ (0 ∷ 2 ∷ 0 ∷ 0 ∷ []) ∷ (12 ∷ []) ∷ (13 ∷ []) ∷ []
 unfolding within sized rowBytes rowsOf stackBytes ringsIn settable reachOf headEnd partEnd ringCount settingsIn storedRows fileOf reachCases settingCases
-    sectionCases readCases readRefusal readAnswer settings
+    sectionCases readCases readRefusal refused refusedIn readAnswer settings
 large-counts part sup ring = refl
 
 pub read-says : List ℕ → List ℕ
@@ -310,10 +336,10 @@ pub read-numbers : map read-says (
     ∷ (take 20 fileB ++ 0 ∷ 0 ∷ 0 ∷ 1 ∷ 0x07 ∷ drop 26 fileB)
     ∷ [])
     ≡ (12 ∷ []) ∷ (12 ∷ []) ∷ (13 ∷ []) ∷ (13 ∷ []) ∷ (12 ∷ []) ∷ (1 ∷ []) ∷ (1 ∷ []) ∷ (2 ∷ []) ∷ (3 ∷ []) ∷ (12 ∷ []) ∷ (13 ∷ []) ∷ (12 ∷ []) ∷ (12 ∷ []) ∷ (13 ∷ [])
-    ∷ (12 ∷ []) ∷ (12 ∷ []) ∷ (13 ∷ []) ∷ (12 ∷ []) ∷ (14 ∷ []) ∷ (14 ∷ []) ∷ (7 ∷ []) ∷ (8 ∷ []) ∷ (13 ∷ [])
+    ∷ (12 ∷ []) ∷ (12 ∷ []) ∷ (13 ∷ []) ∷ (12 ∷ []) ∷ (14 ∷ []) ∷ (14 ∷ []) ∷ (7 ∷ 1 ∷ 0 ∷ []) ∷ (8 ∷ 0 ∷ 0 ∷ []) ∷ (13 ∷ [])
     ∷ []
-unfolding some within sized rowBytes rowsOf stackBytes paddingSet ringsIn settable reachOf headEnd partEnd supportCount supportEnd ringCount jobEnd settingsIn
-    storedIn partIn supportIn layoutOf reachCases settingCases sectionCases readCases readRefusal readAnswer fileB read-says
+unfolding some first within sized rowBytes rowsOf stackBytes padded paddingSet firstPadded ringsIn settable reachOf headEnd partEnd supportCount supportEnd ringCount jobEnd settingsIn
+    storedIn partIn supportIn layoutOf reachCases settingCases sectionCases readCases readRefusal tellRow refused refusedIn readAnswer fileB read-says
 read-numbers = refl
 
 -- copying rings: 6 for a wrong number of them, after what reading tests; and a job without support
@@ -321,10 +347,12 @@ pub copy-numbers :
     saysCopied (copyAnswer fileB 8) ∷ saysCopied (copyAnswer fileB 7) ∷ saysCopied (copyAnswer fileB 9) ∷ saysCopied (copyAnswer (fileB ++ 0 ∷ []) 7)
     ∷ saysCopied (copyAnswer (take 20 fileB ++ 0 ∷ 0 ∷ 0 ∷ 0 ∷ 0 ∷ 0 ∷ 0 ∷ 0 ∷ []) 0)
     ∷ copyRings fileB (9 ∷ 9 ∷ [])
+    ∷ saysCopied (copyAnswer (take 44 (set (set fileB 5 7) 29 7)) 9)
+    ∷ saysCopied (copyAnswer (take 44 (set (set (set fileB 5 7) 29 7) 19 0xFE)) 9)
     ∷ []
-    ≡ (0 ∷ []) ∷ (6 ∷ []) ∷ (6 ∷ []) ∷ (14 ∷ []) ∷ (0 ∷ []) ∷ (9 ∷ 9 ∷ []) ∷ []
-unfolding some within sized rowBytes rowsOf stackBytes paddingSet ringsIn settable reachOf headEnd partEnd supportCount supportEnd ringCount jobEnd settingsIn
-    storedIn partIn supportIn ringsStored reachCases settingCases sectionCases readCases copyCases copyAnswer copyRings fileB
+    ≡ (0 ∷ []) ∷ (6 ∷ []) ∷ (6 ∷ []) ∷ (14 ∷ []) ∷ (0 ∷ []) ∷ (9 ∷ 9 ∷ []) ∷ (7 ∷ 1 ∷ 0 ∷ []) ∷ (8 ∷ 0 ∷ 0 ∷ []) ∷ []
+unfolding some first within sized rowBytes rowsOf stackBytes padded paddingSet firstPadded ringsIn settable reachOf headEnd partEnd supportCount supportEnd ringCount jobEnd settingsIn
+    storedIn partIn supportIn ringsStored reachCases settingCases sectionCases readCases copyCases tellRow refused refusedIn copyAnswer copyRings fileB
 copy-numbers = refl
 
 pub job7 : List ℕ → List ℕ → List ℕ → Job
@@ -345,25 +373,27 @@ pub write-numbers :
     ∷ job7 (2 ∷ 2 ∷ []) [] []
     ∷ jobB
     ∷ [])
-    ≡ (4 ∷ []) ∷ (5 ∷ []) ∷ (6 ∷ []) ∷ (6 ∷ []) ∷ (7 ∷ []) ∷ (8 ∷ []) ∷ (7 ∷ []) ∷ (8 ∷ []) ∷ (0 ∷ 44 ∷ []) ∷ (0 ∷ 28 ∷ []) ∷ (16 ∷ []) ∷ []
-unfolding some each within sized rowBytes rowsOf stackBytes paddingSet ringsIn settable reachOf headEnd partEnd supportEnd ringCount jobEnd storedRows
-    fileLength reachCases settingCases writeCases bothCases stackCases lengthCases writeRefusal writeAnswer settings jobB job7
+    ≡ (4 ∷ []) ∷ (5 ∷ []) ∷ (6 ∷ []) ∷ (6 ∷ []) ∷ (7 ∷ 0 ∷ 0 ∷ []) ∷ (8 ∷ 0 ∷ 0 ∷ []) ∷ (7 ∷ 1 ∷ 0 ∷ []) ∷ (8 ∷ 1 ∷ 0 ∷ []) ∷ (0 ∷ 44 ∷ []) ∷ (0 ∷ 28 ∷ []) ∷ (16 ∷ []) ∷ []
+unfolding some each first within sized rowBytes rowsOf stackBytes padded paddingSet firstPadded ringsIn settable reachOf headEnd partEnd supportEnd ringCount jobEnd storedRows
+    fileLength reachCases settingCases writeCases bothCases stackCases lengthCases writeRefusal tellRow refused writeAnswer settings jobB job7
 write-numbers = refl
 
 -- The report ---------------------------------------------------------------------------------------------------------------
 
--- `job 12 1 1 reach 10`, `0 12 0 0`; and `refused 12`
+-- `job 12 1 1 reach 10`, `0 12 0 0`; `refused 12`; and `refused 7 1 0` for bad padding in the second layer
 pub report-texts :
     reportOf (0 ∷ 0 ∷ 0 ∷ 5 ∷ 0 ∷ 12 ∷ 0 ∷ 1 ∷ 0 ∷ 1 ∷ 0 ∷ 10 ∷ 0 ∷ 109 ∷ 0 ∷ 0 ∷ 0 ∷ 1 ∷ 0xFF ∷ 0xF0 ∷ 0 ∷ 0 ∷ 0 ∷ 0 ∷ 0 ∷ 0 ∷ 0 ∷ 0 ∷ [])
     ∷ reportOf []
+    ∷ reportOf (0 ∷ 0 ∷ 0 ∷ 5 ∷ 0 ∷ 4 ∷ 0 ∷ 1 ∷ 0 ∷ 2 ∷ 0 ∷ 10 ∷ 0 ∷ 0 ∷ 0 ∷ 0 ∷ 0 ∷ 2 ∷ 0xF0 ∷ 0xF8 ∷ 0 ∷ 0 ∷ 0 ∷ 0 ∷ 0 ∷ 0 ∷ 0 ∷ 0 ∷ [])
     ∷ []
     ≡ (106 ∷ 111 ∷ 98 ∷ 32 ∷ 49 ∷ 50 ∷ 32 ∷ 49 ∷ 32 ∷ 49 ∷ 32 ∷ 114 ∷ 101 ∷ 97 ∷ 99 ∷ 104 ∷ 32 ∷ 49 ∷ 48 ∷ 10 ∷ 48 ∷ 32 ∷ 49 ∷ 50 ∷ 32 ∷ 48 ∷ 32 ∷ 48 ∷ 10 ∷ [])
     ∷ (114 ∷ 101 ∷ 102 ∷ 117 ∷ 115 ∷ 101 ∷ 100 ∷ 32 ∷ 49 ∷ 50 ∷ 10 ∷ [])
+    ∷ (114 ∷ 101 ∷ 102 ∷ 117 ∷ 115 ∷ 101 ∷ 100 ∷ 32 ∷ 55 ∷ 32 ∷ 49 ∷ 32 ∷ 48 ∷ 10 ∷ [])
     ∷ []
-unfolding bit some count each joinedUp within sized rowBytes bitAt pixel rowsOf stackBytes paddingSet byteOf bytesOf ringsIn ringAt settable reachOf square
+unfolding bit some count each joinedUp first within sized rowBytes bitAt pixel rowsOf stackBytes padded paddingSet firstPadded byteOf bytesOf ringsIn ringAt settable reachOf square
     boundBy boundOf shadow excused supportUnder topOf planned empty rings plannedRings plannedBytes headEnd partEnd supportCount supportEnd ringCount jobEnd settingsIn
-    storedIn partIn supportIn reachCases settingCases sectionCases readCases digits decimal spaced refusedLine jobLine filled excusedAbove layerLine planLines
-    reportCases reportOf
+    storedIn partIn supportIn reachCases settingCases sectionCases readCases digits decimal spaced allSpaced refusedLine jobLine filled excusedAbove layerLine planLines
+    tellRow refused refusedIn reportCases reportOf
 report-texts = refl
 
 -- three layers of two rows and nine columns, with empty support and no rings stored: pixels are counted over all rows, and planned afresh;
@@ -385,8 +415,8 @@ pub report-rows :
     ∷ 48 ∷ 32 ∷ 49 ∷ 32 ∷ 48 ∷ 32 ∷ 51 ∷ 10
     ∷ [])
     ∷ []
-unfolding bit some count each joinedUp within sized rowBytes bitAt pixel rowsOf stackBytes paddingSet byteOf bytesOf ringsIn ringAt settable reachOf square
+unfolding bit some count each joinedUp within sized rowBytes bitAt pixel rowsOf stackBytes padded paddingSet byteOf bytesOf ringsIn ringAt settable reachOf square
     boundBy boundOf apart distance² shadow near seeds reached touch source touching fits grow grown ringPlane rings excused supportUnder topOf planned empty
     plannedRings plannedBytes headEnd partEnd supportCount supportEnd ringCount jobEnd settingsIn storedIn partIn supportIn reachCases settingCases sectionCases
-    readCases digits decimal spaced refusedLine jobLine filled excusedAbove layerLine planLines reportCases reportOf
+    readCases digits decimal spaced allSpaced refusedLine jobLine filled excusedAbove layerLine planLines reportCases reportOf
 report-rows = refl

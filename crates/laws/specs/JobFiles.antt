@@ -2,7 +2,7 @@
 use mathlib.Core.Path.{_≡_, refl, sym, ap, _∙_}
 use mathlib.Core.Logic.{_↔_}
 use mathlib.Core.List.{List, [], _∷_, _++_}
-use mathlib.Core.Bool.{Bool, true, false, not, cond}
+use mathlib.Core.Bool.{Bool, true, false, not, _&&_, cond}
 use Prim.Native.Nat.{ℕ, _+_, _*_, _≤_, _<_, zero-le}
 use native.Mathlib.Nat.{mul-le-mul, zero-mul, le-refl}
 use native.Mathlib.Omega.{arith}
@@ -14,7 +14,8 @@ use Rattle.rules.specs.Images.{rowBytes, rowsOf, stackBytes, ringsIn, paddingSe
 use Rattle.rules.specs.Jobs.{Job, be32, headEnd, partEnd, supportCount, supportEnd, ringCount, jobEnd, settingsIn, storedIn, partIn, supportIn, storedRows, fileOf, fileLength}
 use Rattle.rules.specs.Calls.{reachCases, settingCases, sectionCases, readCases, readRefusal, copyCases, bothCases, writeCases, writeRefusal}
 use Rattle.rules.specs.declared.Settings.{Settings}
-use Rattle.laws.specs.Refusals.{numbered, orElse, else-both, refusal-append, case-out, settings-numbered, both-numbered, read-numbered}
+use Rattle.laws.specs.Refusals.{numbered, orElse, else-both, else-passes, else-first, lacks, never, refusal-append, case-out, case-told, settings-numbered, both-numbered, read-numbered}
+use Rattle.laws.specs.Tests.{and-l, and-r}
 use Rattle.laws.specs.Limits.{Ranged, ranged, rows-least, stack-most, rings-most}
 use Rattle.laws.specs.StackTables.{Lengths, Both, both-exactly}
 use Rattle.laws.specs.Numbers.{length-put16s}
@@ -91,32 +92,36 @@ read-parts f =
 
 -- A file that is accepted -----------------------------------------------------------------------------------------------------
 
--- "Nothing follows.": its length is the job's, so every section is whole
-pub record GoodFile (f : List ℕ) : Type 0 where
+-- "Nothing follows.": its length is the job's, so every section is whole, and padding alone is left to test
+pub record WholeFile (f : List ℕ) : Type 0 where
   pub first : be32 f 0 ≡ 5
   pub settings : refusal (settingCases (settingsIn f)) ≡ 0
   pub part-count : be32 f headEnd ≡ rowsOf (settingsIn f)
   pub support-count : supportCount (settingsIn f) (storedIn f) ≡ true
   pub ring-count : be32 f (supportEnd (settingsIn f) (storedIn f)) ≡ ringCount (settingsIn f) (storedIn f)
   pub ends : length f ≡ jobEnd (settingsIn f) (storedIn f)
+
+pub record GoodFile (f : List ℕ) : Type 0 where
+  pub whole : WholeFile f
   pub part-clear : paddingSet (settingsIn f .w) (rowsOf (settingsIn f)) (partIn f) ≡ false
   pub support-clear : paddingSet (settingsIn f .w) (storedIn f) (supportIn f) ≡ false
 
-accepted-out : (f : List ℕ) → readRefusal f ≡ 0 → GoodFile f
-unfolding bodyRefusal ringsRefusal paddingRefusal jobEnd storedIn
-accepted-out f e =
+-- a number that no table of reading has but that of padding, or none: no other test refuses where reading gives it
+abbrev Passes : ℕ → Type 0
+Passes k = (cs : List Case) → (lacks 7 cs && lacks 8 cs) ≡ true → refusal cs ≡ k → refusal cs ≡ 0
+
+whole-out : (f : List ℕ) (k : ℕ) → Passes k → readRefusal f ≡ k → WholeFile f × (paddingRefusal f (settingsIn f) (storedIn f) ≡ k)
+unfolding bodyRefusal ringsRefusal jobEnd storedIn sectionCases settingCases reachCases lacks
+whole-out f k n e =
     let s : Settings = settingsIn f in
     let c : ℕ = storedIn f in
-    let p0 = else-both (refusal (sectionCases f 0 (eqb 5) 2)) (orElse (refusal (settingCases s)) (bodyRefusal f s)) (sym (read-parts f) ∙ e) in
-    let p1 = else-both (refusal (settingCases s)) (bodyRefusal f s) (p0 .1) in
-    let p2 = else-both (refusal (sectionCases f headEnd (eqb (rowsOf s)) (rowBytes (s .w)))) _ (p1 .1) in
-    let p3 = else-both (refusal (sectionCases f (partEnd s) (supportCount s) (rowBytes (s .w)))) (ringsRefusal f s c) (p2 .1) in
     let x : Bool = ltb (jobEnd s c) (length f) in
-    let p4 = else-both (refusal (sectionCases f (supportEnd s c) (eqb (ringCount s c)) 2)) (orElse (cond x 14 0) (paddingRefusal f s c)) (p3 .1) in
-    let p5 = else-both (cond x 14 0) (paddingRefusal f s c) (p4 .1) in
-    let y : Bool = paddingSet (s .w) (rowsOf s) (partIn f) in
-    let z : Bool = paddingSet (s .w) c (supportIn f) in
-    let p6 = else-both (cond y 7 0) (cond z 8 0) (p5 .1) in
+    let p0 = else-passes (refusal (sectionCases f 0 (eqb 5) 2)) _ k (n (sectionCases f 0 (eqb 5) 2) refl) (sym (read-parts f) ∙ e) in
+    let p1 = else-passes (refusal (settingCases s)) (bodyRefusal f s) k (n (settingCases s) refl) (p0 .1) in
+    let p2 = else-passes (refusal (sectionCases f headEnd (eqb (rowsOf s)) (rowBytes (s .w)))) _ k (n (sectionCases f headEnd (eqb (rowsOf s)) (rowBytes (s .w))) refl) (p1 .1) in
+    let p3 = else-passes (refusal (sectionCases f (partEnd s) (supportCount s) (rowBytes (s .w)))) (ringsRefusal f s c) k (n (sectionCases f (partEnd s) (supportCount s) (rowBytes (s .w))) refl) (p2 .1) in
+    let p4 = else-passes (refusal (sectionCases f (supportEnd s c) (eqb (ringCount s c)) 2)) (orElse (cond x 14 0) (paddingRefusal f s c)) k (n (sectionCases f (supportEnd s c) (eqb (ringCount s c)) 2) refl) (p3 .1) in
+    let p5 = else-passes (cond x 14 0) (paddingRefusal f s c) k (n ((14 when x) ∷ []) refl) (p4 .1) in
     let one = section-out f 0 (eqb 5) 2 (p0 .0) in
     let two = section-out f headEnd (eqb (rowsOf s)) (rowBytes (s .w)) (p2 .0) in
     let three = section-out f (partEnd s) (supportCount s) (rowBytes (s .w)) (p3 .0) in
@@ -124,16 +129,39 @@ accepted-out f e =
     let rc : be32 f (supportEnd s c) ≡ ringCount s c = sym (eqb-true _ _ (four .right)) in
     let low : supportEnd s c + 4 + ringCount s c * 2 ≤ length f = rw rc at (four .fits) in
     let high : length f ≤ supportEnd s c + 4 + ringCount s c * 2 = ltb-false _ _ (case-out x 13 0 (p5 .0) .0) in
-    record {
+    let w : WholeFile f = record {
       first = sym (eqb-true _ _ (one .right));
       settings = p1 .0;
       part-count = sym (eqb-true _ _ (two .right));
       support-count = three .right;
       ring-count = rc;
       ends = omega arith;
-      part-clear = case-out y 6 0 (p6 .0) .0;
-      support-clear = case-out z 7 0 (p6 .1) .0;
-    }
+    } in
+    (w, p5 .1)
+
+accepted-out : (f : List ℕ) → readRefusal f ≡ 0 → GoodFile f
+unfolding paddingRefusal
+accepted-out f e =
+    let s : Settings = settingsIn f in
+    let (w, p) = whole-out f 0 (λ cs l z. z) e in
+    let y : Bool = paddingSet (s .w) (rowsOf s) (partIn f) in
+    let z : Bool = paddingSet (s .w) (storedIn f) (supportIn f) in
+    let q = else-both (cond y 7 0) (cond z 8 0) p in
+    record { whole = w; part-clear = case-out y 6 0 (q .0) .0; support-clear = case-out z 7 0 (q .1) .0 }
+
+-- 7 and 8 are given to files that are whole, for no other table has them
+pub padded-part : (f : List ℕ) → readRefusal f ≡ 7 → WholeFile f × (paddingSet (settingsIn f .w) (rowsOf (settingsIn f)) (partIn f) ≡ true)
+unfolding paddingRefusal lacks
+padded-part f e =
+    let (w, p) = whole-out f 7 (λ cs l z. absurd (never 6 cs (and-l (lacks 7 cs) (lacks 8 cs) l) z)) e in
+    (w, case-told _ 6 (else-first (cond (paddingSet (settingsIn f .w) (rowsOf (settingsIn f)) (partIn f)) 7 0) _ 7 (λ z. never 6 ((8 when paddingSet (settingsIn f .w) (storedIn f) (supportIn f)) ∷ []) refl z) p))
+
+pub padded-support : (f : List ℕ) → readRefusal f ≡ 8 → WholeFile f × (paddingSet (settingsIn f .w) (storedIn f) (supportIn f) ≡ true)
+unfolding paddingRefusal lacks
+padded-support f e =
+    let y : Bool = paddingSet (settingsIn f .w) (rowsOf (settingsIn f)) (partIn f) in
+    let (w, p) = whole-out f 8 (λ cs l z. absurd (never 7 cs (and-r (lacks 7 cs) (lacks 8 cs) l) z)) e in
+    (w, case-told _ 7 (else-passes (cond y 7 0) _ 8 (λ z. absurd (never 7 ((7 when y) ∷ []) refl z)) p .1))
 
 -- how far the sections of a file of the job's length reach
 pub record Rooms (f : List ℕ) : Type 0 where
@@ -142,13 +170,16 @@ pub record Rooms (f : List ℕ) : Type 0 where
   pub support : supportEnd (settingsIn f) (storedIn f) + 4 ≤ length f
   pub rings : supportEnd (settingsIn f) (storedIn f) + 4 + ringCount (settingsIn f) (storedIn f) * 2 ≡ length f
 
-pub rooms : (f : List ℕ) → GoodFile f → Rooms f
+pub rooms : (f : List ℕ) → WholeFile f → Rooms f
 unfolding jobEnd supportEnd partEnd headEnd
 rooms f a =
     let e = a .ends in
     record { head = omega arith; part = omega arith; support = omega arith; rings = omega arith }
 
-module _ (f : List ℕ) (a : GoodFile f) where
+module _ (f : List ℕ) (good : GoodFile f) where
+  abbrev a : WholeFile f
+  a = good .whole
+
   abbrev s : Settings
   s = settingsIn f
 
@@ -187,8 +218,8 @@ module _ (f : List ℕ) (a : GoodFile f) where
         section-in
             f (supportEnd s c) (eqb (ringCount s c)) 2 four,
         le-ltb _ _ e,
-        a .part-clear,
-        a .support-clear,
+        good .part-clear,
+        good .support-clear,
       )
 
 pub accepted-exactly : (f : List ℕ) → (readRefusal f ≡ 0) ↔ GoodFile f

@@ -6,6 +6,7 @@ pub mod Refusals
 pub mod Demand1
 pub mod Judgements
 pub mod Lowest
+pub mod Padding
 pub mod Bounds
 pub mod Outcomes
 pub mod Demand2

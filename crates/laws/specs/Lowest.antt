@@ -7,7 +7,7 @@ use mathlib.Core.List.{List, [], _∷_}
 use Prim.Native.Nat.{ℕ, suc, _≤_}
 use native.Mathlib.Omega.{arith}
 use lib.Dec.{leb}
-use lib.ListN.{length}
+use lib.ListN.{length, getD}
 use borrow.Author.Tests.{leb-true}
 use Rattle.rules.specs.Tools.{Case}
 use Rattle.rules.specs.Jobs.{Job}
@@ -73,14 +73,14 @@ pub reach-lowest : (p t : Micrometres) (k j : ℕ) → saysReached (reachAnswer 
 unfolding reachCases rising floor
 reach-lowest p t k j e a = lowest (reachCases p t) (suc k) j refl (reach-refuses p t k .0 e) a
 
-pub plan-lowest : (s : Settings) (part : List ℕ) (x y k j : ℕ) → saysPlanned (planAnswer s part x y) ≡ suc k ∷ [] → Applies j (planCases s part x y) → suc k ≤ j
+pub plan-lowest : (s : Settings) (part : List ℕ) (x y k j : ℕ) → getD (saysPlanned (planAnswer s part x y)) 0 0 ≡ suc k → Applies j (planCases s part x y) → suc k ≤ j
 unfolding planCases stackCases settingCases reachCases lengthCases rising floor
 plan-lowest s part x y k j e a = lowest (planCases s part x y) (suc k) j refl (plan-refuses s part x y k .0 e) a
 
-pub judge-lowest : (s : Settings) (part sup l : List ℕ) (k j : ℕ) → saysJudged (judgeAnswer s part sup l) ≡ suc k ∷ [] → Applies j (judgeCases s part sup (length l)) → suc k ≤ j
+pub judge-lowest : (s : Settings) (part sup l : List ℕ) (k j : ℕ) → suc k ≤ 8 → getD (saysJudged (judgeAnswer s part sup l)) 0 0 ≡ suc k → Applies j (judgeCases s part sup (length l)) → suc k ≤ j
 unfolding judgeCases bothCases stackCases settingCases reachCases lengthCases rising floor
-judge-lowest s part sup l k j e a = lowest (judgeCases s part sup (length l)) (suc k) j refl (judge-refuses s part sup l k .0 e) a
+judge-lowest s part sup l k j h e a = lowest (judgeCases s part sup (length l)) (suc k) j refl (judge-refuses s part sup l k h .0 e) a
 
-pub write-lowest : (j : Job) (room k i : ℕ) → saysWritten (writeAnswer j room) ≡ suc k ∷ [] → Applies i (writeCases j room) → suc k ≤ i
+pub write-lowest : (j : Job) (room k i : ℕ) → getD (saysWritten (writeAnswer j room)) 0 0 ≡ suc k → Applies i (writeCases j room) → suc k ≤ i
 unfolding writeCases bothCases stackCases lengthCases settingCases reachCases rising floor
 write-lowest j room k i e a = lowest (writeCases j room) (suc k) i refl (write-refuses j room k .0 e) a

@@ -8,29 +8,30 @@ use Prim.Native.Nat.{ℕ, zero, suc, _+_, _-_, _*_, _≤_}
 use native.Mathlib.Nat.{zero-mul}
 use native.Mathlib.Omega.{arith}
 use lib.Dec.{ltb, eqb}
-use lib.ListN.{length, take, drop}
+use lib.ListN.{length, getD, take, drop}
 use borrow.Author.Tests.{eqb-true, ltb-true, not-false}
 use Rattle.rules.specs.Tools.{_when_, refusal, answer}
 use Rattle.rules.specs.Images.{rowBytes, rowsOf, stackBytes}
 use Rattle.rules.specs.Jobs.{Job, be32, get16s, headEnd, partEnd, supportCount, supportEnd, ringCount, jobEnd, settingsIn, storedIn, partIn, supportIn}
 use Rattle.rules.specs.Jobs.{ringsStored, layoutOf, jobIn, fileLength}
 use Rattle.rules.specs.Calls.{saysCopied, readRefusal, partAnswer, supportAnswer, copyCases, copyAnswer, copyRings, reachCases, settingCases, lengthCases}
-use Rattle.rules.specs.Calls.{bothCases, stackCases, writeCases, writeRefusal}
+use Rattle.rules.specs.Calls.{bothCases, stackCases, writeCases, writeRefusal, refusedIn}
 use Rattle.rules.specs.Demands.{Given, here, later}
 use Rattle.rules.specs.declared.Settings.{Settings}
 use Rattle.rules.specs.declared.CopiedRings.the-variants.{Copied, Refused}
 use Rattle.laws.specs.Refusals.{given-exactly, else-both, case-out, answer-fine, answer-refused}
 use Rattle.laws.specs.Numbers.{length-get16s}
 use Rattle.laws.specs.StackTables.{Lengths}
-use Rattle.laws.specs.JobFiles.{GoodFile, accepted-exactly, rooms, copy-parts, copy-fits, stores, in-order, writable-exactly, longest-job}
+use Rattle.laws.specs.JobFiles.{WholeFile, accepted-exactly, rooms, copy-parts, copy-fits, stores, in-order, writable-exactly, longest-job}
+use Rattle.laws.specs.Padding.{refused-number}
 use Rattle.laws.specs.RoundTrips.{part-length, support-length, accepted-writable, same-length}
 
 module _ (f : List ℕ) (e : readRefusal f ≡ 0) where
   abbrev s : Settings
   s = settingsIn f
 
-  a : GoodFile f
-  a = accepted-exactly f .0 e
+  a : WholeFile f
+  a = accepted-exactly f .0 e .whole
 
   part-is : partAnswer f ≡ partIn f
   unfolding partAnswer
@@ -115,19 +116,19 @@ refused-empty f n = (answer-refused (readRefusal f) _ _ n, answer-refused (readR
 
 -- "a lent ring buffer, which must have exactly the stored number of rings": neither fewer nor more
 pub copy-exactly : (f : List ℕ) (room : ℕ) → (saysCopied (copyAnswer f room) ≡ 0 ∷ []) ↔ ((readRefusal f ≡ 0) × (room ≡ length (ringsStored f)))
-unfolding copyAnswer ringsStored
+unfolding copyAnswer ringsStored refusedIn
 copy-exactly f room = (
   (λ h.
       let z : refusal (copyCases f room) ≡ 0 = go (refusal (copyCases f room)) h in
       let (r, k) = else-both (readRefusal f) _ (sym (copy-parts f room) ∙ z) in
       let y = eqb-true room (ringCount (settingsIn f) (storedIn f)) (not-false _ (case-out _ 5 0 k .0)) in
       (r, y ∙ sym (length-get16s f _ _))),
-  (λ (r, y). ap saysCopied (answer-fine (refusal (copyCases f room)) Copied Refused (copy-fits f room r (y ∙ length-get16s f _ _)))),
+  (λ (r, y). ap saysCopied (answer-fine (refusal (copyCases f room)) Copied (λ k. Refused (refusedIn f k)) (copy-fits f room r (y ∙ length-get16s f _ _)))),
 )
   where
-    go : (x : ℕ) → saysCopied (answer x Copied Refused) ≡ 0 ∷ [] → x ≡ 0
+    go : (x : ℕ) → saysCopied (answer x Copied (λ k. Refused (refusedIn f k))) ≡ 0 ∷ [] → x ≡ 0
     go zero h = refl
-    go (suc x) h = cc
+    go (suc x) h = sym (refused-number (settingsIn f) (partIn f) (supportIn f) (suc x)) ∙ ap (λ (l : List ℕ). getD l 0 0) h
 
 -- The lengths of jobs ------------------------------------------------------------------------------------------------------------
 

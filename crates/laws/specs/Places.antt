@@ -2,14 +2,15 @@
 use mathlib.Core.Path.{_≡_, refl, ap}
 use mathlib.Core.Bool.{Bool, true, false}
 use Prim.Native.Nat.{ℕ, zero, suc, _+_, _-_, _*_, _/_, _%_, _≤_, _<_}
-use native.Mathlib.Nat.{div-lt-iff-lt-mul, mod-lt}
+use native.Mathlib.Nat.{div-lt-iff-lt-mul, mod-lt, mul-assoc, add-mul}
 use native.Mathlib.Omega.{arith}
 use lib.Arith.{digits-lt, digits-div, digits-mod}
 use lib.Dec.{ltb, eqb}
 use borrow.Author.Tests.{eqb-true, eqb-false, ltb-true, ltb-false}
 use Rattle.rules.specs.Images.{Stack}
 use Rattle.rules.specs.Tools.{Found, nothing, found, first}
-use Rattle.rules.specs.Judging.{firstIn, tell, verdict, overlap, badRing, unheld}
+use Rattle.rules.specs.Judging.{firstIn, tell, verdict, overlap, badRing, unheld, unheldNumber}
+use Rattle.rules.specs.Demands.{Earlier, sooner-layer, sooner-row, sooner-column}
 use Rattle.rules.specs.declared.Judged.{Judged}
 use Rattle.rules.specs.declared.Judged.the-variants.{Accepted}
 use Rattle.laws.specs.Tests.{split, clash}
@@ -48,6 +49,53 @@ pub digits-in : (x n c : ℕ) → x < n * c → (x / c < n) × (x % c < c)
 digits-in x n zero h = absurd (omega arith)
 digits-in x n (suc c) h = (div-lt-iff-lt-mul {k = suc c} {x = x} {y = n} (omega arith) .1 h, mod-lt x (omega arith))
 
+-- The order of places -------------------------------------------------------------------------------------------------------
+
+-- the number of row r, column c of layer i, all pixels counted through
+abbrev pub numberOf : ℕ → ℕ → ℕ → ℕ → ℕ → ℕ
+numberOf w h i r c = i * (h * w) + (r * w + c)
+
+pub flat-is : (w h i r c : ℕ) → i * (h * w) + (r * w + c) ≡ (i * h + r) * w + c
+flat-is w h i r c =
+    let a : (i * h + r) * w ≡ i * h * w + r * w = add-mul (i * h) r w in
+    omega (arith, mul-assoc i h w)
+
+module _ (w h : ℕ) where
+  -- places in order are numbers in order
+  pub earlier-less : (j s d i r c : ℕ) → s < h → d < w → Earlier j s d i r c → numberOf w h j s d < numberOf w h i r c
+  earlier-less j s d i r c ls ld (sooner-layer l) =
+      let p : j * (h * w) + (s * w + d) < i * (h * w) = digits-lt l (digits-lt ls ld) in
+      omega arith
+  earlier-less j s d i r c ls ld (sooner-row e l) =
+      let p : s * w + d < r * w = digits-lt l ld in
+      rw e (omega arith)
+  earlier-less j s d i r c ls ld (sooner-column e g l) = rw (e, g) (omega arith)
+
+  pub less-earlier : (j s d i r c : ℕ) → r < h → c < w → numberOf w h j s d < numberOf w h i r c → Earlier j s d i r c
+  less-earlier j s d i r c lr lc h₁ =
+      split (ltb j i) (λ t. sooner-layer (ltb-true j i t)) (λ t.
+      split (ltb i j)
+      (λ u.
+      let p : i * (h * w) + (r * w + c) < j * (h * w) = digits-lt (ltb-true i j u) (digits-lt lr lc) in
+      absurd (omega arith))
+      (λ u.
+      let e : j ≡ i = omega (arith, ltb-false j i t, ltb-false i j u) in
+      let m : s * w + d < r * w + c = same-layer (rw e at h₁) in
+      split (ltb s r) (λ x. sooner-row e (ltb-true s r x)) (λ x.
+      split (ltb r s)
+      (λ y.
+      let p : r * w + c < s * w = digits-lt (ltb-true r s y) lc in
+      absurd (omega arith))
+      (λ y.
+      let g : s ≡ r = omega (arith, ltb-false s r x, ltb-false r s y) in
+      sooner-column e g (same-row (rw g at m))))))
+    where
+      same-layer : i * (h * w) + (s * w + d) < i * (h * w) + (r * w + c) → s * w + d < r * w + c
+      same-layer l = omega arith
+
+      same-row : r * w + d < r * w + c → d < c
+      same-row l = omega arith
+
 -- No pixel of n layers passes: as a search from the first, and pixel by pixel
 abbrev pub Nowhere : ℕ → ℕ → ℕ → Stack → Type 0
 Nowhere w h n f = (i p : ℕ) → i < n → p < h * w → f i p ≡ false
@@ -77,17 +125,17 @@ pub record Passed (w h n : ℕ) (q : ℕ → ℕ) (part sup : Stack) (ring : ℕ
   pub no-bad-ring : Nowhere w h (n - 1) (badRing w h q part ring)
   pub none-unheld : Nowhere w h (n - 1) (unheld part sup ring)
 
-told : (w h number up : ℕ) (r : Found) (v : Judged) → tell w h number up r v ≡ Accepted → (r ≡ nothing) × (v ≡ Accepted)
+told : (w h up : ℕ) (number : ℕ → ℕ → ℕ) (r : Found) (v : Judged) → tell w h number up r v ≡ Accepted → (r ≡ nothing) × (v ≡ Accepted)
 unfolding tell
-told w h number up nothing v e = (refl, e)
-told w h number up (found x) v e = (cc, cc)
+told w h up number nothing v e = (refl, e)
+told w h up number (found x) v e = (cc, cc)
 
 pub accepted-out : (w h n : ℕ) (q : ℕ → ℕ) (part sup : Stack) (ring : ℕ → ℕ → ℕ) → verdict w h n q part sup ring ≡ Accepted → Passed w h n q part sup ring
 unfolding verdict
 accepted-out w h n q part sup ring e =
-    let (o, e₁) = told w h 9 0 (firstIn w h n (overlap part sup)) _ e in
-    let (b, e₂) = told w h 10 1 (firstIn w h (n - 1) (badRing w h q part ring)) _ e₁ in
-    let (u, e₃) = told w h 11 1 (firstIn w h (n - 1) (unheld part sup ring)) _ e₂ in
+    let (o, e₁) = told w h 0 (λ i p. 9) (firstIn w h n (overlap part sup)) _ e in
+    let (b, e₂) = told w h 1 (λ i p. 10) (firstIn w h (n - 1) (badRing w h q part ring)) _ e₁ in
+    let (u, e₃) = told w h 1 (unheldNumber part) (firstIn w h (n - 1) (unheld part sup ring)) _ e₂ in
     record { no-overlap = nowhere-out w h n _ o; no-bad-ring = nowhere-out w h (n - 1) _ b; none-unheld = nowhere-out w h (n - 1) _ u }
 
 pub accepted-in : (w h n : ℕ) (q : ℕ → ℕ) (part sup : Stack) (ring : ℕ → ℕ → ℕ) → Passed w h n q part sup ring → verdict w h n q part sup ring ≡ Accepted

@@ -7,7 +7,7 @@ use Prim.Native.Nat.{ℕ, zero, suc, _≤_}
 use native.Mathlib.Omega.{arith}
 use lib.Dec.{leb, eqb}
 use lib.ListN.{length}
-use borrow.Author.Tests.{leb-true}
+use borrow.Author.Tests.{leb-true, eq-eqb, not-true}
 use Rattle.rules.specs.Tools.{Case, _when_, refusal, answer}
 use Rattle.rules.specs.Images.{rowsOf, paddingSet}
 use Rattle.rules.specs.Demands.{Given, here, later, NoneGiven, end, next}
@@ -90,6 +90,16 @@ pub else-both : (a b : ℕ) → orElse a b ≡ 0 → (a ≡ 0) × (b ≡ 0)
 else-both zero b e = (refl, e)
 else-both (suc a) b e = absurd (omega arith)
 
+-- a number that the first of two cannot give, unless it is none, comes from the second
+pub else-passes : (a b k : ℕ) → (a ≡ k → a ≡ 0) → orElse a b ≡ k → (a ≡ 0) × (b ≡ k)
+else-passes zero b k n e = (refl, e)
+else-passes (suc a) b k n e = absurd (let z : suc a ≡ 0 = n e in omega arith)
+
+-- and one that the second cannot give comes from the first
+pub else-first : (a b k : ℕ) → (b ≡ k → ⊥) → orElse a b ≡ k → a ≡ k
+else-first zero b k n e = absurd (n e)
+else-first (suc a) b k n e = e
+
 pub refusal-append : (a b : List Case) → numbered a ≡ true → refusal (a ++ b) ≡ orElse (refusal a) (refusal b)
 unfolding numbered
 refusal-append [] b n = refl
@@ -121,6 +131,15 @@ pub case-out : (b : Bool) (k x : ℕ) → cond b (suc k) x ≡ 0 → (b ≡ fals
 case-out true k x e = absurd (omega arith)
 case-out false k x e = (refl, e)
 
+-- a case before others that do not give its number, and one that gives another
+pub case-told : (b : Bool) (k : ℕ) → cond b (suc k) 0 ≡ suc k → b ≡ true
+case-told true k e = refl
+case-told false k e = absurd (omega arith)
+
+pub case-passes : (b : Bool) (k x j : ℕ) → (k ≡ j → ⊥) → cond b k x ≡ j → (b ≡ false) × (x ≡ j)
+case-passes true k x j n e = absurd (n e)
+case-passes false k x j n e = (refl, e)
+
 -- no number of the table is over m, so no refusal is
 unfoldable pub upTo : ℕ → List Case → Bool
 upTo m [] = true
@@ -133,6 +152,19 @@ at-most m (c ∷ cs) l =
     split (c .applies)
     (λ t. rw t (leb-true (c .number) m (and-l (leb (c .number) m) (upTo m cs) l)))
     (λ t. rw t (at-most m cs (and-r (leb (c .number) m) (upTo m cs) l)))
+
+-- no case of the table has the number k, so no refusal is k
+unfoldable pub lacks : ℕ → List Case → Bool
+lacks k [] = true
+lacks k (c ∷ cs) = not (eqb (c .number) k) && lacks k cs
+
+pub never : (k : ℕ) (cs : List Case) → lacks (suc k) cs ≡ true → refusal cs ≡ suc k → ⊥
+unfolding lacks
+never k [] l e = omega arith
+never k (c ∷ cs) l e =
+    split (c .applies)
+    (λ t. clash (eq-eqb (c .number) (suc k) (rw t at e)) (not-true _ (and-l (not (eqb (c .number) (suc k))) (lacks (suc k) cs) l)))
+    (λ t. never k cs (and-r (not (eqb (c .number) (suc k))) (lacks (suc k) cs) l) (rw t at e))
 
 -- an answer, by its refusal number
 pub answer-fine : {A : Type 0} (r : ℕ) (fine : A) (refused : ℕ → A) → r ≡ 0 → answer r fine refused ≡ fine

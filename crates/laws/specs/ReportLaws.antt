@@ -1,25 +1,28 @@
 -- The report: its example, and that a printed number is the number.
-use mathlib.Core.Path.{_≡_, refl, sym, ap, _∙_}
+use mathlib.Core.Path.{_≡_, refl, sym, ap, ap₂, _∙_}
 use mathlib.Core.Logic.{_↔_}
-use mathlib.Core.Bool.{cond}
-use mathlib.Core.List.{List, [], _∷_, _++_, append-nil}
+use mathlib.Core.Bool.{Bool, true, false, cond}
+use mathlib.Core.List.{List, [], _∷_, _++_, append-nil, append-assoc}
 use Prim.Native.Nat.{ℕ, zero, suc, _+_, _-_, _*_, _/_, _%_, _≤_, _<_}
 use native.Mathlib.Omega.{arith}
 use lib.Dec.{ltb}
-use lib.ListN.{length, length-append, take, drop-of-length-le, take-append-drop}
+use lib.ListN.{length, length-append, getD, take, drop-of-length-le, take-append-drop}
 use borrow.Author.Tests.{ltb-true, ltb-false, lt-ltb, le-ltb}
 use Rattle.rules.specs.Tools.{Case, _when_, refusal, answer, bit, some, count, each, joinedUp}
-use Rattle.rules.specs.Images.{within, sized, rowBytes, bitAt, pixel, rowsOf, stackBytes, paddingSet, byteOf, bytesOf, ringsIn, ringAt}
+use Rattle.rules.specs.Images.{within, sized, rowBytes, bitAt, pixel, rowsOf, stackBytes, padded, paddingSet, byteOf, bytesOf, ringsIn, ringAt}
 use Rattle.rules.specs.Reach.{settable, reachOf, square, boundBy, boundOf, apart, distance²}
 use Rattle.rules.specs.Planning.{shadow, near, seeds, reached, touch, source, touching, fits, grow, grown, ringPlane, rings, excused, supportUnder, topOf}
 use Rattle.rules.specs.Planning.{planned, empty, plannedRings, plannedBytes}
 use Rattle.rules.specs.Jobs.{headEnd, partEnd, supportCount, supportEnd, ringCount, jobEnd, settingsIn, storedIn, partIn, supportIn}
-use Rattle.rules.specs.Calls.{reachCases, settingCases, sectionCases, readCases, readRefusal}
-use Rattle.rules.specs.Report.{digits, decimal, spaced, newline, refusedLine, jobLine, filled, excusedAbove, layerLine, planLines, reportCases, reportOf}
-use Rattle.rules.specs.Demands.{Given}
+use Rattle.rules.specs.Calls.{saysRefusal, reachCases, settingCases, sectionCases, readCases, readRefusal, refused, refusedIn}
+use Rattle.rules.specs.Report.{digits, decimal, spaced, newline, allSpaced, refusedLine, jobLine, filled, excusedAbove, layerLine, planLines, reportCases, reportOf}
+use Rattle.rules.specs.Demands.{Given, Tells}
 use Rattle.rules.specs.declared.Settings.{Settings}
 use Rattle.laws.specs.Tests.{split}
-use Rattle.laws.specs.Refusals.{refusal-append, else-both, case-out, given-exactly, read-numbered}
+use Rattle.laws.specs.Refusals.{refusal-append, else-both, else-first, case-out, case-passes, read-numbered}
+use Rattle.laws.specs.Padding.{number-exactly, tells}
+use Rattle.laws.specs.JobFiles.{padded-part}
+use Rattle.laws.specs.Demand1.{stored-padding}
 
 -- "Input (28 bytes, hexadecimal) .. Whole output": `job 8 1 2 reach 2`, `1 8 0 0`, `0 3 3 2`
 pub report-example :
@@ -30,7 +33,7 @@ pub report-example :
     ∷ 49 ∷ 32 ∷ 56 ∷ 32 ∷ 48 ∷ 32 ∷ 48 ∷ 10
     ∷ 48 ∷ 32 ∷ 51 ∷ 32 ∷ 51 ∷ 32 ∷ 50 ∷ 10
     ∷ []
-unfolding bit some count each joinedUp within sized rowBytes bitAt pixel rowsOf stackBytes paddingSet byteOf bytesOf ringsIn ringAt settable reachOf square
+unfolding bit some count each joinedUp within sized rowBytes bitAt pixel rowsOf stackBytes padded paddingSet byteOf bytesOf ringsIn ringAt settable reachOf square
     boundBy boundOf apart distance² shadow near seeds reached touch source touching fits grow grown ringPlane rings excused supportUnder topOf planned empty
     plannedRings plannedBytes headEnd partEnd supportCount supportEnd ringCount jobEnd settingsIn storedIn partIn supportIn reachCases settingCases sectionCases
     readCases digits decimal spaced refusedLine jobLine filled excusedAbove layerLine planLines reportCases reportOf
@@ -101,12 +104,12 @@ report-reads f e =
 
 -- 17 in both places ----------------------------------------------------------------------------------------------------------------
 
-pub report-too-long : (f : List ℕ) → 65536 < length f → reportOf f ≡ refusedLine 17
-unfolding reportOf reportCases
+pub report-too-long : (f : List ℕ) → 65536 < length f → reportOf f ≡ refusedLine (17 ∷ [])
+unfolding reportOf reportCases refusedIn refused
 report-too-long f h = rw (lt-ltb 65536 (length f) h)
 
-pub report-no-room : (f : List ℕ) → length f ≤ 65536 → refusal (readCases f) ≡ 0 → 32768 < ringsIn (settingsIn f) → reportOf f ≡ refusedLine 17
-unfolding reportOf reportCases
+pub report-no-room : (f : List ℕ) → length f ≤ 65536 → refusal (readCases f) ≡ 0 → 32768 < ringsIn (settingsIn f) → reportOf f ≡ refusedLine (17 ∷ [])
+unfolding reportOf reportCases refusedIn refused
 report-no-room f h e r =
     let a : refusal (readCases f ++ (17 when ltb 32768 (ringsIn (settingsIn f))) ∷ []) ≡ 17 =
     refusal-append (readCases f) ((17 when ltb 32768 (ringsIn (settingsIn f))) ∷ []) (read-numbered f) ∙ rw (e, lt-ltb 32768 (ringsIn (settingsIn f)) r) in
@@ -120,47 +123,129 @@ report-prints f h e r =
     refusal-append (readCases f) ((17 when ltb 32768 (ringsIn (settingsIn f))) ∷ []) (read-numbered f) ∙ rw (e, le-ltb 32768 (ringsIn (settingsIn f)) r) in
     rw (le-ltb 65536 (length f) h, a)
 
--- other refusals print their number
-pub report-refused : (f : List ℕ) (k : ℕ) → length f ≤ 65536 → refusal (readCases f) ≡ suc k → reportOf f ≡ refusedLine (suc k)
+-- other refusals print their number, and their place
+pub report-refused : (f : List ℕ) (k : ℕ) → length f ≤ 65536 → refusal (readCases f) ≡ suc k → reportOf f ≡ refusedLine (saysRefusal (refusedIn f (suc k)))
 unfolding reportOf reportCases
 report-refused f k h e =
     let a : refusal (readCases f ++ (17 when ltb 32768 (ringsIn (settingsIn f))) ∷ []) ≡ suc k =
     refusal-append (readCases f) ((17 when ltb 32768 (ringsIn (settingsIn f))) ∷ []) (read-numbered f) ∙ rw e in
     rw (le-ltb 65536 (length f) h, a)
 
--- a line of a refusal tells its number, and no plan begins like one
-line-number : (j k : ℕ) → refusedLine j ≡ refusedLine k → j ≡ k
-unfolding refusedLine spaced valueFrom
-line-number j k e =
-    let tail : decimal j ++ newline ≡ decimal k ++ newline = cc in
-    let value : (x : ℕ) → valueFrom 0 (decimal x ++ newline) ≡ x * 10 = λ x. value-append 0 (decimal x) newline ∙ rw (decimal-value x) (omega arith) in
-    let same : j * 10 ≡ k * 10 = sym (value j) ∙ ap (valueFrom 0) tail ∙ value k in
-    omega arith
+-- A line is read back: the numbers that it prints -----------------------------------------------------------------------------------
 
-first-byte : (s : Settings) (part : List ℕ) (k : ℕ) → planLines s part ≡ refusedLine k → _≡_ {A = ℕ} 106 114
-unfolding planLines jobLine refusedLine
-first-byte s part k e = cc
+data Figures : List ℕ → Type 0 where
+  none : Figures []
+  more : {x : ℕ} {xs : List ℕ} → 48 ≤ x → Figures xs → Figures (x ∷ xs)
 
--- "Other refusals print `refused` and the number": a number is printed exactly when the program's table gives it
-pub report-exactly : (f : List ℕ) (k : ℕ) → (reportOf f ≡ refusedLine (suc k)) ↔ Given (suc k) (reportCases f)
-unfolding reportOf
-report-exactly f k = (
-  (λ e. given-exactly (reportCases f) k .0 (go (refusal (reportCases f)) e)),
-  (λ g. ap (λ (x : ℕ). answer x (planLines (settingsIn f) (partIn f)) refusedLine) (given-exactly (reportCases f) k .1 g)),
-)
+figures-append : {a b : List ℕ} → Figures a → Figures b → Figures (a ++ b)
+figures-append none f = f
+figures-append (more h g) f = more h (figures-append g f)
+
+digits-figures : (k x : ℕ) → Figures (digits k x)
+unfolding digits
+digits-figures zero x = none
+digits-figures (suc k) x = figures-append (go (ltb x 10) (digits-figures k (x / 10))) (more (omega arith) none)
   where
-    no-plan : (s : Settings) (part : List ℕ) → planLines s part ≡ refusedLine (suc k) → ⊥
-    no-plan s part e = let z : _≡_ {A = ℕ} 106 114 = first-byte s part (suc k) e in omega arith
+    go : (b : Bool) → Figures (digits k (x / 10)) → Figures (cond b [] (digits k (x / 10)))
+    go true f = none
+    go false f = f
 
-    go : (x : ℕ) → answer x (planLines (settingsIn f) (partIn f)) refusedLine ≡ refusedLine (suc k) → x ≡ suc k
-    go zero e = absurd (no-plan (settingsIn f) (partIn f) e)
-    go (suc x) e = line-number (suc x) (suc k) e
+-- figures end where the first byte below them stands
+cut : {a b : List ℕ} (c d : ℕ) (r t : List ℕ) → Figures a → Figures b → c < 48 → d < 48 → a ++ c ∷ r ≡ b ++ d ∷ t → (a ≡ b) × (c ∷ r ≡ d ∷ t)
+cut c d r t none none hc hd e = (refl, e)
+cut c d r t none (more {x = y} h g) hc hd e = absurd (let z : c ≡ y = cc in omega arith)
+cut c d r t (more {x = x} h f) none hc hd e = absurd (let z : x ≡ d = cc in omega arith)
+cut c d r t (more {x = x} {xs = a} h f) (more {x = y} {xs = b} i g) hc hd e =
+    let z : x ≡ y = cc in
+    let w : a ++ c ∷ r ≡ b ++ d ∷ t = cc in
+    let (p, q) = cut c d r t f g hc hd w in
+    (ap₂ (λ (u : ℕ) (v : List ℕ). u ∷ v) z p, q)
+
+-- what follows a number begins with a space or ends the line
+follows : (l : List ℕ) → (c : ℕ) × (r : List ℕ) × (c < 48) × (allSpaced l ++ newline ≡ c ∷ r)
+unfolding allSpaced spaced
+follows [] = (10, [], omega arith, refl)
+follows (x ∷ l) = (32, (decimal x ++ allSpaced l) ++ newline, omega arith, refl)
+
+line-tells : (l m : List ℕ) → allSpaced l ++ newline ≡ allSpaced m ++ newline → l ≡ m
+unfolding allSpaced spaced decimal
+line-tells [] [] e = refl
+line-tells [] (y ∷ m) e = absurd (let z : _≡_ {A = ℕ} 10 32 = cc in omega arith)
+line-tells (x ∷ l) [] e = absurd (let z : _≡_ {A = ℕ} 32 10 = cc in omega arith)
+line-tells (x ∷ l) (y ∷ m) e =
+    let (c, r, hc, ec) = follows l in
+    let (d, t, hd, ed) = follows m in
+    let tail : (decimal x ++ allSpaced l) ++ newline ≡ (decimal y ++ allSpaced m) ++ newline = cc in
+    let apart : decimal x ++ c ∷ r ≡ decimal y ++ d ∷ t =
+    ap (λ (v : List ℕ). decimal x ++ v) (sym ec) ∙ sym (append-assoc (decimal x) (allSpaced l) newline) ∙ tail ∙ append-assoc (decimal y) (allSpaced m) newline ∙ ap (λ (v : List ℕ). decimal y ++ v) ed in
+    let (p, q) = cut c d r t (digits-figures (suc x) x) (digits-figures (suc y) y) hc hd apart in
+    let same : x ≡ y = sym (decimal-value x) ∙ ap (valueFrom 0) p ∙ decimal-value y in
+    ap₂ (λ (u : ℕ) (v : List ℕ). u ∷ v) same (line-tells l m (ec ∙ q ∙ sym ed))
+
+refused-tells : (l m : List ℕ) → refusedLine l ≡ refusedLine m → l ≡ m
+unfolding refusedLine
+refused-tells l m e = line-tells l m cc
+
+-- What the program says of a job that it refuses --------------------------------------------------------------------------------------
+
+-- no plan begins like a refusal
+first-byte : (s : Settings) (part said : List ℕ) → planLines s part ≡ refusedLine said → _≡_ {A = ℕ} 106 114
+unfolding planLines jobLine refusedLine
+first-byte s part said e = cc
+
+module _ (f : List ℕ) where
+  -- the number and the place, or 0
+  abbrev pub reportSays : List ℕ
+  reportSays = answer (refusal (reportCases f)) (0 ∷ []) (λ k. saysRefusal (refusedIn f k))
+
+  -- "the report prints it after the number, a space before each part": a line with a number is printed exactly where that and no more is to be said
+  pub report-line : (k : ℕ) (l : List ℕ) → (reportOf f ≡ refusedLine (suc k ∷ l)) ↔ (reportSays ≡ suc k ∷ l)
+  unfolding reportOf
+  report-line k l = (go (refusal (reportCases f)), back (refusal (reportCases f)))
+    where
+      text : ℕ → List ℕ
+      text x = answer x (planLines (settingsIn f) (partIn f)) (λ j. refusedLine (saysRefusal (refusedIn f j)))
+
+      said : ℕ → List ℕ
+      said x = answer x (0 ∷ []) (λ j. saysRefusal (refusedIn f j))
+
+      go : (x : ℕ) → text x ≡ refusedLine (suc k ∷ l) → said x ≡ suc k ∷ l
+      go zero e = absurd (let z : _≡_ {A = ℕ} 106 114 = first-byte (settingsIn f) (partIn f) (suc k ∷ l) e in omega arith)
+      go (suc x) e = refused-tells (saysRefusal (refusedIn f (suc x))) (suc k ∷ l) e
+
+      back : (x : ℕ) → said x ≡ suc k ∷ l → text x ≡ refusedLine (suc k ∷ l)
+      back zero e = absurd (let z : _≡_ {A = ℕ} 0 (suc k) = cc in omega arith)
+      back (suc x) e = ap refusedLine e
+
+  -- "Other refusals print `refused` and the number": a number is printed exactly when the program's table gives it
+  pub report-exactly : (k : ℕ) → (getD reportSays 0 0 ≡ suc k) ↔ Given (suc k) (reportCases f)
+  unfolding refusedIn
+  report-exactly k = number-exactly (λ l. l) (0 ∷ []) saysRefusal (λ j. refl) (reportCases f) (settingsIn f) (partIn f) (supportIn f) k (λ e. omega arith)
+
+  -- 7 and 8 of the program are those of reading
+  reported-as-read : (k : ℕ) → (17 ≡ suc k → ⊥) → refusal (reportCases f) ≡ suc k → readRefusal f ≡ suc k
+  unfolding reportCases readRefusal
+  reported-as-read k n e =
+      let rings : List Case = (17 when ltb 32768 (ringsIn (settingsIn f))) ∷ [] in
+      let (_, z) = case-passes (ltb 65536 (length f)) 17 (refusal (readCases f ++ rings)) (suc k) n e in
+      else-first (refusal (readCases f)) (refusal rings) (suc k) (λ h. n (other (ltb 32768 (ringsIn (settingsIn f))) h)) (sym (refusal-append (readCases f) rings (read-numbered f)) ∙ z)
+    where
+      other : (b : Bool) → cond b 17 0 ≡ suc k → 17 ≡ suc k
+      other true h = h
+      other false h = absurd (omega arith)
+
+  pub report-tells : Tells reportSays (reportCases f) (settingsIn f) (partIn f) (supportIn f)
+  unfolding refusedIn
+  report-tells =
+      tells (λ l. l) (0 ∷ []) saysRefusal (λ j. refl) (reportCases f) (settingsIn f) (partIn f) (supportIn f) (λ e. omega arith) (λ e. omega arith)
+      (λ e. padded-part f (reported-as-read 6 (λ z. omega arith) e) .1)
+      (λ e. stored-padding f (reported-as-read 7 (λ z. omega arith) e))
 
 pub take-all : (n : ℕ) (l : List ℕ) → length l ≤ n → take n l ≡ l
 take-all n l h = sym (append-nil (take n l)) ∙ ap (λ (x : List ℕ). take n l ++ x) (sym (drop-of-length-le l h)) ∙ take-append-drop n l
 
 -- the program reads 65,536 bytes and asks whether there are more: what it then prints is the report of the whole input
-pub report-whole : (f : List ℕ) → cond (ltb 65536 (length f)) (refusedLine 17) (reportOf (take 65536 f)) ≡ reportOf f
+pub report-whole : (f : List ℕ) → cond (ltb 65536 (length f)) (refusedLine (17 ∷ [])) (reportOf (take 65536 f)) ≡ reportOf f
 report-whole f =
     split (ltb 65536 (length f))
     (λ t. rw t (sym (report-too-long f (ltb-true 65536 (length f) t))))

@@ -13,7 +13,7 @@ use Rattle.rules.specs.Tools.{refusal, answer}
 use Rattle.rules.specs.Images.{rowBytes, rowsOf, stackBytes}
 use Rattle.rules.specs.Jobs.{Job, be16, be32, put16, put32, get16s, put16s, headEnd, partEnd, supportCount, supportEnd, ringCount, settingsIn, storedIn, partIn}
 use Rattle.rules.specs.Jobs.{supportIn, ringsStored, layoutOf, jobIn, storedRows, fileOf, fileLength, over}
-use Rattle.rules.specs.Calls.{saysSettings, saysRead, saysWritten, readRefusal, readAnswer, partAnswer, supportAnswer, copyCases, copyAnswer, copyRings, writeRefusal, writeTo}
+use Rattle.rules.specs.Calls.{saysSettings, saysRead, saysWritten, readRefusal, readAnswer, partAnswer, supportAnswer, copyCases, copyAnswer, copyRings, writeRefusal, writeTo, refusedIn}
 use Rattle.rules.specs.Outcomes.{Reads, HandsPart, HandsSupport, Copies, Writes}
 use Rattle.rules.specs.Demands.{Bytes, Words}
 use Rattle.rules.specs.declared.Settings.{Settings}
@@ -26,7 +26,7 @@ use Rattle.laws.specs.Refusals.{answer-fine, answer-refused}
 use Rattle.laws.specs.Demand1.{read-answers, job-read, write-answers}
 use Rattle.laws.specs.Limits.{Ranged, ranged, rows-most}
 use Rattle.laws.specs.Numbers.{peel16, peel32, peel, peel16s, grow16, grow32, grow, grow16s, length-get16s}
-use Rattle.laws.specs.JobFiles.{copy-fits, GoodFile, accepted-exactly, rooms, rowsStored, Writable, writable-exactly, write-fits, write-short}
+use Rattle.laws.specs.JobFiles.{copy-fits, WholeFile, GoodFile, accepted-exactly, rooms, rowsStored, Writable, writable-exactly, write-fits, write-short}
 use Rattle.laws.specs.JobFiles.{stored-most, ring-count-most, length-file}
 
 -- The bytes of a job, section by section, each with all that follows -------------------------------------------------------
@@ -71,39 +71,44 @@ count-back s c k v a e = go (eqb c 0) refl a
         let y : k ≡ 0 → ⊥ = λ q. omega (arith, p2) in
         simp (ne-eqb k 0 y) z
 
-module _ (f : List ℕ) (a : GoodFile f) where
+-- the lengths of what a whole file holds
+module _ (f : List ℕ) (a : WholeFile f) where
+  pub part-length : length (partIn f) ≡ stackBytes (settingsIn f)
+  unfolding partIn partEnd
+  part-length = let r = rooms f a in length-take-le _ _ (rw length-drop (omega arith))
+
+  pub support-length : length (supportIn f) ≡ storedIn f * rowBytes (settingsIn f .w)
+  unfolding supportIn supportEnd
+  support-length = let r = rooms f a in length-take-le _ _ (rw length-drop (omega arith))
+
+  pub support-rows : storedIn f ≡ storedRows (settingsIn f) (length (supportIn f))
+  support-rows = count-back (settingsIn f) (storedIn f) (length (supportIn f)) (ranged (settingsIn f) (a .settings)) (a .support-count) support-length
+
+module _ (f : List ℕ) (good : GoodFile f) where
   abbrev s : Settings
   s = settingsIn f
 
   abbrev c : ℕ
   c = storedIn f
 
-  pub part-length : length (partIn f) ≡ stackBytes s
-  unfolding partIn partEnd
-  part-length = let r = rooms f a in length-take-le _ _ (rw length-drop (omega arith))
-
-  pub support-length : length (supportIn f) ≡ c * rowBytes (s .w)
-  unfolding supportIn supportEnd
-  support-length = let r = rooms f a in length-take-le _ _ (rw length-drop (omega arith))
-
-  pub support-rows : c ≡ storedRows s (length (supportIn f))
-  support-rows = count-back s c (length (supportIn f)) (ranged s (a .settings)) (a .support-count) support-length
+  abbrev a : WholeFile f
+  a = good .whole
 
   pub accepted-writable : Writable (jobIn f)
   unfolding ringsStored
   accepted-writable =
       record {
         settings = a .settings;
-        part = part-length;
-        support = rw (← support-rows) support-length;
-        rings = rw (← support-rows) (length-get16s f (supportEnd s c + 4) (ringCount s c));
-        part-clear = a .part-clear;
-        support-clear = rw (← support-rows) (a .support-clear);
+        part = part-length f a;
+        support = rw (← support-rows f a) (support-length f a);
+        rings = rw (← support-rows f a) (length-get16s f (supportEnd s c + 4) (ringCount s c));
+        part-clear = good .part-clear;
+        support-clear = rw (← support-rows f a) (good .support-clear);
       }
 
   pub same-length : fileLength (jobIn f) ≡ length f
   unfolding fileLength
-  same-length = rw (← support-rows) (sym (a .ends))
+  same-length = rw (← support-rows f a) (sym (a .ends))
 
   module _ (b : Bytes f) where
     rings-again : drop (supportEnd s c) f ≡ from-rings (jobIn f)
@@ -121,7 +126,7 @@ module _ (f : List ℕ) (a : GoodFile f) where
     support-again =
         let r = rooms f a in
         grow32 f (partEnd s) b (r .part)
-        ∙ ap₂ (λ (k : ℕ) (l : List ℕ). put32 k ++ l) support-rows
+        ∙ ap₂ (λ (k : ℕ) (l : List ℕ). put32 k ++ l) (support-rows f a)
         (grow f (partEnd s + 4) (c * rowBytes (s .w)) ∙ ap (λ (l : List ℕ). supportIn f ++ l) rings-again)
 
     part-again : drop headEnd f ≡ from-part (jobIn f)
@@ -241,12 +246,14 @@ module _ (j : Job) (w : Words (j .rings)) (v : Writable j) where
   unfolding fileLength
   written-accepted =
       record {
-        first = head .first;
-        settings = rw (head .settings) (v .settings);
-        part-count = rw (head .settings) (part .count);
-        support-count = rw (head .settings, stored) (stored-right t (length (j .support)));
-        ring-count = rw (head .settings, stored) (rings .count ∙ v .rings);
-        ends = rw (head .settings, stored) (length-file j v);
+        whole = record {
+          first = head .first;
+          settings = rw (head .settings) (v .settings);
+          part-count = rw (head .settings) (part .count);
+          support-count = rw (head .settings, stored) (stored-right t (length (j .support)));
+          ring-count = rw (head .settings, stored) (rings .count ∙ v .rings);
+          ends = rw (head .settings, stored) (length-file j v);
+        };
         part-clear = rw (head .settings, part-back) (v .part-clear);
         support-clear = rw (head .settings, stored, support-back) (v .support-clear);
       }
@@ -321,7 +328,7 @@ written-again-by-calls f part sup old ring d d′ l r b read hands-part hands-su
       writes .destination ∙ rw e (sym (take-append-drop (fileLength (jobIn f)) (writeTo (jobIn f) d)) ∙ rw (front, back, same, n)),
     )
   where
-    copied : (x : ℕ) → Copied ≡ answer x Copied NotCopied → x ≡ 0
+    copied : (x : ℕ) → Copied ≡ answer x Copied (λ k. NotCopied (refusedIn f k)) → x ≡ 0
     copied zero h = refl
     copied (suc x) h = absurd (let y : _≡_ {A = ℕ} 0 1 = cc in omega arith)
 

@@ -4,17 +4,19 @@ use mathlib.Core.Logic.{_↔_}
 use mathlib.Core.Bool.{Bool, true, false, not, cond}
 use mathlib.Core.List.{List, [], _∷_, _++_}
 use Prim.Native.Nat.{ℕ, _≤_, _<_}
+use native.Mathlib.Omega.{arith}
 use lib.Dec.{eqb, ltb}
 use lib.ListN.{length}
 use borrow.Author.Tests.{eq-eqb, ne-eqb, eqb-true, not-false, le-ltb, lt-ltb, ltb-false}
-use Rattle.rules.specs.Tools.{Case, _when_, refusal}
+use Rattle.rules.specs.Tools.{some, Case, _when_, refusal}
 use Rattle.rules.specs.Images.{rowsOf, stackBytes, ringsIn, paddingSet}
 use Rattle.rules.specs.Calls.{reachCases, settingCases, lengthCases, stackCases, bothCases, planCases, planRefusal, cleanCases, cleanRefusal, judgeCases}
 use Rattle.rules.specs.Cleaning.{mostGap}
 use Rattle.rules.specs.declared.Settings.{Settings}
 use Rattle.rules.specs.declared.Pixels.{Pixels}
-use Rattle.laws.specs.Tests.{split}
-use Rattle.laws.specs.Refusals.{numbered, orElse, else-both, else-none, else-some, refusal-append, case-out, settings-numbered, stack-numbered, none-both}
+use Rattle.laws.specs.Tests.{split, clash}
+use Rattle.laws.specs.Refusals.{numbered, lacks, never, orElse, else-both, else-none, else-some, else-passes, else-first, refusal-append, case-out, case-told, case-passes}
+use Rattle.laws.specs.Refusals.{settings-numbered, stack-numbered, none-both}
 
 -- the lengths of part, support and rings are right
 pub record Lengths (s : Settings) (stored : Bool) (part sup k : ℕ) : Type 0 where
@@ -87,6 +89,40 @@ module _ (s : Settings) (stored : Bool) (part sup : List ℕ) (k : ℕ) where
   pub both-exactly : (refusal (bothCases s stored part sup k) ≡ 0) ↔ Both s stored part sup k
   both-exactly = (both-out, both-in)
 
+-- a stack in which padding is all that is wrong, told as 7 or as 8
+pub record Padded (s : Settings) (l : List ℕ) : Type 0 where
+  pub settings : refusal (settingCases s) ≡ 0
+  pub long : length l ≡ stackBytes s
+  pub set : paddingSet (s .w) (rowsOf s) l ≡ true
+
+pub stack-seven : (s : Settings) (stored : Bool) (part : List ℕ) (sup k : ℕ) → refusal (stackCases s stored part sup k) ≡ 7 → Padded s part
+unfolding lengthCases settingCases reachCases lacks
+stack-seven s stored part sup k e =
+    let (a, e₁) = else-passes (refusal (settingCases s)) _ 7 (λ z. absurd (never 6 (settingCases s) refl z)) (sym (stack-parts s stored part sup k) ∙ e) in
+    let (b, e₂) = else-passes (refusal (lengthCases s stored (length part) sup k)) _ 7 (λ z. absurd (never 6 (lengthCases s stored (length part) sup k) refl z)) e₁ in
+    record { settings = a; long = lengths-out s stored (length part) sup k b .part-long; set = case-told _ 6 e₂ }
+
+module _ (s : Settings) (stored : Bool) (part sup : List ℕ) (k : ℕ) where
+  both-parts : refusal (bothCases s stored part sup k) ≡ orElse (refusal (stackCases s stored part (length sup) k)) (refusal (pad s stored part sup k))
+  unfolding bothCases
+  both-parts = refusal-append (stackCases s stored part (length sup) k) (pad s stored part sup k) (stack-numbered s stored part (length sup) k)
+
+  pub both-seven : refusal (bothCases s stored part sup k) ≡ 7 → Padded s part
+  unfolding lacks
+  both-seven e = stack-seven s stored part (length sup) k (else-first _ (refusal (pad s stored part sup k)) 7 (λ z. never 6 (pad s stored part sup k) refl z) (sym both-parts ∙ e))
+
+  pub both-eight : refusal (bothCases s stored part sup k) ≡ 8 → Padded s sup
+  unfolding stackCases lengthCases settingCases reachCases lacks paddingSet some
+  both-eight e =
+      let cs : List Case = stackCases s stored part (length sup) k in
+      let (a, b) = else-passes (refusal cs) _ 8 (λ z. absurd (never 7 cs refl z)) (sym both-parts ∙ e) in
+      let v = stack-exactly s stored part (length sup) k .0 a in
+      by-stored stored (v .settings) (v .lengths .support-long) (case-told _ 7 b)
+    where
+      by-stored : (b : Bool) → refusal (settingCases s) ≡ 0 → length sup ≡ cond b (stackBytes s) 0 → paddingSet (s .w) (cond b (rowsOf s) 0) sup ≡ true → Padded s sup
+      by-stored true a l p = record { settings = a; long = l; set = p }
+      by-stored false a l p = clash p refl
+
 -- planning and checking
 pub plan-exactly : (s : Settings) (part : List ℕ) (a b : ℕ) → (planRefusal s part a b ≡ 0) ↔ Stacked s true part a b
 unfolding planRefusal planCases
@@ -133,6 +169,17 @@ module _ (s : Settings) (c : Pixels) (part : List ℕ) (sup k clean : ℕ) where
         (sym (clean-as-plan l z) ∙ e, l, z)),
     (λ (e, l, z). clean-as-plan l z ∙ e),
   )
+
+  pub clean-seven : cleanRefusal s c part sup k clean ≡ 7 → Padded s part
+  unfolding settingCases reachCases lacks
+  clean-seven e =
+      let (a, e₁) = else-passes (refusal (settingCases s)) behind 7 (λ z. absurd (never 6 (settingCases s) refl z)) (sym clean-parts ∙ e) in
+      let (g, e₂) = case-passes (ltb mostGap (c .0)) 18 _ 7 (λ z. omega arith) e₁ in
+      let (b, e₃) = case-passes (not (eqb (length part) (stackBytes s))) 4 _ 7 (λ z. omega arith) e₂ in
+      let (d, e₄) = case-passes (not (eqb sup (stackBytes s))) 5 _ 7 (λ z. omega arith) e₃ in
+      let (f, e₅) = case-passes (not (eqb clean (stackBytes s))) 5 _ 7 (λ z. omega arith) e₄ in
+      let (h, e₆) = case-passes (not (eqb k (ringsIn s))) 6 _ 7 (λ z. omega arith) e₅ in
+      record { settings = a; long = eqb-true _ _ (not-false _ b); set = case-told _ 6 e₆ }
 
   -- a test of the numbers in turn: settings, c, the length of the part and that of the cleaned support
   pub clean-settings : (refusal (settingCases s) ≡ 0 → ⊥) → cleanRefusal s c part sup k clean ≡ refusal (settingCases s)

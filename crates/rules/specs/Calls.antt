@@ -1,11 +1,11 @@
 -- Rules 6: for each call its refusals in their order, its answer, and what the lent memory holds afterwards.
 use mathlib.Core.Bool.{Bool, true, not, cond}
 use mathlib.Core.List.{List, [], _∷_, _++_}
-use Prim.Native.Nat.{ℕ, _+_, _*_}
+use Prim.Native.Nat.{ℕ, _+_, _*_, _/_, _%_}
 use lib.Dec.{ltb, eqb}
 use lib.ListN.{length}
-use Rattle.rules.specs.Tools.{Case, _when_, refusal, answer}
-use Rattle.rules.specs.Images.{rowBytes, sized, rowsOf, stackBytes, ringsIn, paddingSet}
+use Rattle.rules.specs.Tools.{Found, nothing, found, Case, _when_, refusal, answer}
+use Rattle.rules.specs.Images.{rowBytes, sized, rowsOf, stackBytes, ringsIn, paddingSet, firstPadded}
 use Rattle.rules.specs.Reach.{settable, reachOf, mostReach, boundOf}
 use Rattle.rules.specs.Planning.{plannedRings, plannedBytes}
 use Rattle.rules.specs.Cleaning.{mostGap, cleanedBytes}
@@ -15,12 +15,14 @@ use Rattle.rules.specs.Jobs.{ringsStored, layoutOf, fileOf, fileLength, 
 use Rattle.rules.specs.declared.Micrometres.{Micrometres}
 use Rattle.rules.specs.declared.Pixels.{Pixels}
 use Rattle.rules.specs.declared.Settings.{Settings}
+use Rattle.rules.specs.declared.Refusal.{Refusal}
+use Rattle.rules.specs.declared.Refusal.the-variants.{Number, InRow, AtPixel}
 use Rattle.rules.specs.declared.Reached.{Reached}
 use Rattle.rules.specs.declared.Reached.the-variants.{By, Refused as NotReached}
 use Rattle.rules.specs.declared.Planned.{Planned}
 use Rattle.rules.specs.declared.Planned.the-variants.{Done, Refused as NotPlanned}
 use Rattle.rules.specs.declared.Judged.{Judged}
-use Rattle.rules.specs.declared.Judged.the-variants.{Accepted, Refused as NotJudged, RefusedAt}
+use Rattle.rules.specs.declared.Judged.the-variants.{Accepted, Refused as NotJudged}
 use Rattle.rules.specs.declared.ReadJob.{ReadJob}
 use Rattle.rules.specs.declared.ReadJob.the-variants.{Job as IsJob, Refused as NotRead}
 use Rattle.rules.specs.declared.CopiedRings.{CopiedRings}
@@ -28,7 +30,12 @@ use Rattle.rules.specs.declared.CopiedRings.the-variants.{Copied, Refuse
 use Rattle.rules.specs.declared.WrittenJob.{WrittenJob}
 use Rattle.rules.specs.declared.WrittenJob.the-variants.{Length, Refused as NotWritten}
 
--- Rule 6.8: each answer as its number, 0 for none, and then its values; a refusal has a place where it is 9, 10 or 11, and nothing else -----
+-- Rule 6.8: each answer as its number, 0 for none, and then its values; a refusal has its place, where it has one, and nothing else ---------
+
+abbrev pub saysRefusal : Refusal → List ℕ
+saysRefusal (Number k) = k ∷ []
+saysRefusal (InRow k at) = k ∷ at .layer ∷ at .row ∷ []
+saysRefusal (AtPixel k at) = k ∷ at .layer ∷ at .row ∷ at .column ∷ []
 
 abbrev pub saysReached : Reached → List ℕ
 saysReached (By r) = 0 ∷ r .0 ∷ []
@@ -36,12 +43,11 @@ saysReached (NotReached k) = k ∷ []
 
 abbrev pub saysPlanned : Planned → List ℕ
 saysPlanned Done = 0 ∷ []
-saysPlanned (NotPlanned k) = k ∷ []
+saysPlanned (NotPlanned r) = saysRefusal r
 
 abbrev pub saysJudged : Judged → List ℕ
 saysJudged Accepted = 0 ∷ []
-saysJudged (NotJudged k) = k ∷ []
-saysJudged (RefusedAt k at) = k ∷ at .layer ∷ at .row ∷ at .column ∷ []
+saysJudged (NotJudged r) = saysRefusal r
 
 abbrev pub saysSettings : Settings → List ℕ
 saysSettings s = s .w ∷ s .h ∷ s .n ∷ s .pitch .0 ∷ s .overhang .0 ∷ []
@@ -49,15 +55,15 @@ saysSettings s = s .w ∷ s .h ∷ s .n ∷ s .pitch .0 ∷ s .overhang .0 ∷ [
 abbrev pub saysRead : ReadJob → List ℕ
 saysRead (IsJob l) =
     0 ∷ saysSettings (l .settings) ++ cond (l .stored) 1 0 ∷ l .head ∷ l .part ∷ l .support ∷ l .rings ∷ []
-saysRead (NotRead k) = k ∷ []
+saysRead (NotRead r) = saysRefusal r
 
 abbrev pub saysCopied : CopiedRings → List ℕ
 saysCopied Copied = 0 ∷ []
-saysCopied (NotCopied k) = k ∷ []
+saysCopied (NotCopied r) = saysRefusal r
 
 abbrev pub saysWritten : WrittenJob → List ℕ
 saysWritten (Length k) = 0 ∷ k ∷ []
-saysWritten (NotWritten k) = k ∷ []
+saysWritten (NotWritten r) = saysRefusal r
 
 -- Rule 6.1, reach: it is given pitch and overhang alone, so 1 does not apply -------------------------------------------------------
 
@@ -99,6 +105,18 @@ bothCases s stored part support rings =
     ++ (8 when paddingSet (s .w) (cond stored (rowsOf s) 0) support)
     ∷ []
 
+-- Rule 6.10, "7 and 8 also tell layer and row of the first bad padding" ----------------------------------------------------------------
+
+-- the number with the place of the row found, where rows are counted through a stack of h rows to a layer
+unfoldable pub tellRow : ℕ → ℕ → Found → Refusal
+tellRow h number nothing = Number number
+tellRow h number (found row) = InRow number (record { layer = row / h; row = row % h })
+
+-- the refusal of a table's number: 7 with the part's row, 8 with the support's, and any other number alone
+unfoldable pub refused : Settings → List ℕ → List ℕ → ℕ → Refusal
+refused s part support k =
+    cond (eqb k 7) (tellRow (s .h) k (firstPadded s part)) (cond (eqb k 8) (tellRow (s .h) k (firstPadded s support)) (Number k))
+
 -- Rule 6.2, planning: part is read, support and rings are lent ---------------------------------------------------------------------
 
 unfoldable pub planCases : Settings → List ℕ → ℕ → ℕ → List Case
@@ -108,7 +126,7 @@ unfoldable pub planRefusal : Settings → List ℕ → ℕ → ℕ → ℕ
 planRefusal s part support rings = refusal (planCases s part support rings)
 
 unfoldable pub planAnswer : Settings → List ℕ → ℕ → ℕ → Planned
-planAnswer s part support rings = answer (planRefusal s part support rings) Done NotPlanned
+planAnswer s part support rings = answer (planRefusal s part support rings) Done (λ k. NotPlanned (refused s part [] k))
 
 -- Rule 6.8: a refusal leaves lent memory as it was
 unfoldable pub planSupport : Settings → List ℕ → List ℕ → List ℕ → List ℕ
@@ -137,7 +155,7 @@ unfoldable pub cleanRefusal : Settings → Pixels → List ℕ → ℕ → ℕ �
 cleanRefusal s c part support rings clean = refusal (cleanCases s c part support rings clean)
 
 unfoldable pub cleanAnswer : Settings → Pixels → List ℕ → ℕ → ℕ → ℕ → Planned
-cleanAnswer s c part support rings clean = answer (cleanRefusal s c part support rings clean) Done NotPlanned
+cleanAnswer s c part support rings clean = answer (cleanRefusal s c part support rings clean) Done (λ k. NotPlanned (refused s part [] k))
 
 -- support and rings are those of planning, and the cleaned support is beside them
 unfoldable pub cleanSupport : Settings → Pixels → List ℕ → List ℕ → List ℕ → List ℕ → List ℕ
@@ -162,7 +180,7 @@ unfoldable pub judgeAnswer : Settings → List ℕ → List ℕ → List ℕ →
 judgeAnswer s part support rings =
     answer (refusal (judgeCases s part support (length rings)))
     (verdictOf (s .w) (s .h) (s .n) (boundOf s) part support rings)
-    NotJudged
+    (λ k. NotJudged (refused s part support k))
 
 -- Rule 6.4, reading, from the first byte on ------------------------------------------------------------------------------------------
 
@@ -192,8 +210,12 @@ readCases f =
 unfoldable pub readRefusal : List ℕ → ℕ
 readRefusal f = refusal (readCases f)
 
+-- a refusal of a file, with the place of its padding
+unfoldable pub refusedIn : List ℕ → ℕ → Refusal
+refusedIn f k = refused (settingsIn f) (partIn f) (supportIn f) k
+
 unfoldable pub readAnswer : List ℕ → ReadJob
-readAnswer f = answer (readRefusal f) (IsJob (layoutOf f)) NotRead
+readAnswer f = answer (readRefusal f) (IsJob (layoutOf f)) (λ k. NotRead (refusedIn f k))
 
 -- Rule 6.5: the stretch of the file, empty where the job is refused; these two calls give no number
 unfoldable pub partAnswer : List ℕ → List ℕ
@@ -207,7 +229,7 @@ unfoldable pub copyCases : List ℕ → ℕ → List Case
 copyCases f room = readCases f ++ (6 when not (eqb room (ringCount (settingsIn f) (storedIn f)))) ∷ []
 
 unfoldable pub copyAnswer : List ℕ → ℕ → CopiedRings
-copyAnswer f room = answer (refusal (copyCases f room)) Copied NotCopied
+copyAnswer f room = answer (refusal (copyCases f room)) Copied (λ k. NotCopied (refusedIn f k))
 
 unfoldable pub copyRings : List ℕ → List ℕ → List ℕ
 copyRings f rings = answer (refusal (copyCases f (length rings))) (ringsStored f) (λ k. rings)
@@ -227,7 +249,7 @@ writeRefusal j room = refusal (writeCases j room)
 
 -- Rule 5.6: the length is answered, and what is behind it stays
 unfoldable pub writeAnswer : Job → ℕ → WrittenJob
-writeAnswer j room = answer (writeRefusal j room) (Length (fileLength j)) NotWritten
+writeAnswer j room = answer (writeRefusal j room) (Length (fileLength j)) (λ k. NotWritten (refused (j .settings) (j .part) (j .support) k))
 
 unfoldable pub writeTo : Job → List ℕ → List ℕ
 writeTo j d = answer (writeRefusal j (length d)) (over d 0 (fileOf j)) (λ k. d)

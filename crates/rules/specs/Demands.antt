@@ -1,13 +1,14 @@
 -- Rules 8, as statements: given exactly when; the first place; joined, excused and sound.
 use mathlib.Core.Path.{_≡_}
-use mathlib.Core.Logic.{_⊎_}
+use mathlib.Core.Logic.{_⊎_, _↔_}
 use mathlib.Core.Bool.{Bool, true, false, _||_}
 use mathlib.Core.List.{List, [], _∷_}
 use Prim.Native.Nat.{ℕ, suc, _+_, _*_, _<_}
-use lib.ListN.{getD}
+use lib.ListN.{length, getD}
 use Rattle.rules.specs.Tools.{Case, _when_}
-use Rattle.rules.specs.Images.{Plane, Stack}
+use Rattle.rules.specs.Images.{Plane, Stack, padded}
 use Rattle.rules.specs.Planning.{touch, seeds, reached}
+use Rattle.rules.specs.declared.Settings.{Settings}
 use Rattle.rules.specs.declared.Place.{Place}
 
 -- Rule 8.1: the number k is that of a case whose condition holds, and no earlier one of the table does
@@ -40,6 +41,20 @@ pub record FirstAt (w h n up : ℕ) (f : Stack) (at : Place) : Type 0 where
   pub told : at ≡ record { layer = i + up; row = r; column = c }
   pub passes : f i (r * w + c) ≡ true
   pub none-earlier : (j s d : ℕ) → j < n → s < h → d < w → Earlier j s d i r c → f j (s * w + d) ≡ false
+
+-- "the first bad padding": row r of layer i has padding set, and no row of n layers that comes before it
+pub record FirstRow (w h n : ℕ) (l : List ℕ) (i r : ℕ) : Type 0 where
+  pub inside : (i < n) × (r < h)
+  pub bad : padded w l (i * h + r) ≡ true
+  pub none-earlier : (j s : ℕ) → j < n → s < h → Earlier j s 0 i r 0 → padded w l (j * h + s) ≡ false
+
+-- Rule 6.10, "a refusal carries its number, its place where the table says so, and nothing else": what a call says where its table refuses is the
+-- number alone, but for 7 and 8, which always come with layer and row of the first bad padding, of the part and of the support
+pub record Tells (said : List ℕ) (cs : List Case) (s : Settings) (part sup : List ℕ) : Type 0 where
+  pub alone : (k : ℕ) → Given (suc k) cs → (suc k ≡ 7 → ⊥) → (suc k ≡ 8 → ⊥) → said ≡ suc k ∷ []
+  pub part-row : (i r : ℕ) → (said ≡ 7 ∷ i ∷ r ∷ []) ↔ (Given 7 cs × FirstRow (s .w) (s .h) (s .n) part i r)
+  pub support-row : (i r : ℕ) → (said ≡ 8 ∷ i ∷ r ∷ []) ↔ (Given 8 cs × FirstRow (s .w) (s .h) (s .n) sup i r)
+  pub with-row : Given 7 cs ⊎ Given 8 cs → length said ≡ 3
 
 -- Rule 8.3: the pixel p is joined to a seed by k steps over free pixels, itself the first
 pub data Joined (m : ℕ) (touch : ℕ → ℕ → Bool) (free seed : Plane) : ℕ → ℕ → Type 0 where

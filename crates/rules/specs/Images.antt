@@ -5,7 +5,7 @@ use mathlib.Core.List.{List}
 use Prim.Native.Nat.{ℕ, zero, suc, _+_, _-_, _*_, _/_, _%_, _^_}
 use lib.Dec.{leb, ltb, eqb}
 use lib.ListN.{getD}
-use Rattle.rules.specs.Tools.{bit, some, each}
+use Rattle.rules.specs.Tools.{bit, some, each, Found, first}
 use Rattle.rules.specs.declared.Settings.{Settings}
 
 abbrev pub Plane : Type 0
@@ -44,9 +44,17 @@ rowsOf s = s .n * s .h
 unfoldable pub stackBytes : Settings → ℕ
 stackBytes s = rowsOf s * rowBytes (s .w)
 
--- Rule 1.4: some of the first k rows has a bit set that no pixel uses
+-- Rule 1.4: a row of a stack, all its rows counted through, has a bit set that no pixel uses
+unfoldable pub padded : ℕ → List ℕ → ℕ → Bool
+padded w s row = not (eqb (getD s (row * rowBytes w + (rowBytes w - 1)) 0 % 2 ^ (8 * rowBytes w - w)) 0)
+
+-- some of the first k rows has
 unfoldable pub paddingSet : ℕ → ℕ → List ℕ → Bool
-paddingSet w k s = some k λ row. not (eqb (getD s (row * rowBytes w + (rowBytes w - 1)) 0 % 2 ^ (8 * rowBytes w - w)) 0)
+paddingSet w k s = some k (padded w s)
+
+-- the first row that has
+unfoldable pub firstPadded : Settings → List ℕ → Found
+firstPadded s l = first 0 (rowsOf s) (padded (s .w) l)
 
 -- Rule 1.5: the bytes of a stack: byte j of a row has the eight pixels from column 8 * j on, and 0 where the row has ended
 unfoldable pub byteOf : ℕ → ℕ → Stack → ℕ → ℕ → ℕ → ℕ

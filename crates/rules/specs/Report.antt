@@ -9,7 +9,7 @@ use Rattle.rules.specs.Images.{Stack, Rings, pixel, ringsIn, ringAt}
 use Rattle.rules.specs.Reach.{reachOf, boundOf}
 use Rattle.rules.specs.Planning.{excused, plannedRings, plannedBytes}
 use Rattle.rules.specs.Jobs.{settingsIn, partIn}
-use Rattle.rules.specs.Calls.{readCases}
+use Rattle.rules.specs.Calls.{saysRefusal, readCases, refusedIn}
 use Rattle.rules.specs.declared.Settings.{Settings}
 
 -- Rule 7.4: a number in decimal, of at most as many digits as the first argument says; 48 is the digit 0
@@ -27,9 +27,14 @@ spaced x = 32 ∷ decimal x
 abbrev pub newline : List ℕ
 newline = 10 ∷ []
 
--- Rule 7.2: `refused` and a number
-unfoldable pub refusedLine : ℕ → List ℕ
-refusedLine k = 114 ∷ 101 ∷ 102 ∷ 117 ∷ 115 ∷ 101 ∷ 100 ∷ spaced k ++ newline
+-- "a space before each part": numbers, each behind a space
+unfoldable pub allSpaced : List ℕ → List ℕ
+allSpaced [] = []
+allSpaced (x ∷ xs) = spaced x ++ allSpaced xs
+
+-- Rule 7.2: `refused` and what the refusal says, its number and its place "after the number"
+unfoldable pub refusedLine : List ℕ → List ℕ
+refusedLine said = 114 ∷ 101 ∷ 102 ∷ 117 ∷ 115 ∷ 101 ∷ 100 ∷ allSpaced said ++ newline
 
 -- Rule 7.3: `job`, the three sizes, `reach`, and the reach
 unfoldable pub jobLine : Settings → List ℕ
@@ -67,8 +72,8 @@ reportCases f =
     ∷ []
 
 unfoldable pub reportOf : List ℕ → List ℕ
-reportOf f = answer (refusal (reportCases f)) (planLines (settingsIn f) (partIn f)) refusedLine
+reportOf f = answer (refusal (reportCases f)) (planLines (settingsIn f) (partIn f)) (λ k. refusedLine (saysRefusal (refusedIn f k)))
 
 -- what is printed where f is what was read, and `more` says that the input goes on after it
 abbrev pub textOf : List ℕ → Bool → List ℕ
-textOf f more = cond more (refusedLine 17) (reportOf f)
+textOf f more = cond more (refusedLine (17 ∷ [])) (reportOf f)

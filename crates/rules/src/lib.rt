@@ -25,7 +25,20 @@ pub struct Place {
     pub column: usize,
 }
 
-// The answer of the reach call.
+// A row of a stack, counted from 0.
+pub struct RowPlace {
+    pub layer: usize,
+    pub row: usize,
+}
+
+// Why a call refuses: its number, and the place where it has one, a row of two parts or a pixel of three.
+pub enum Refusal {
+    Number(u8),
+    InRow(u8, RowPlace),
+    AtPixel(u8, Place),
+}
+
+// The answer of the reach call, which tells no place.
 pub enum Reached {
     By(Pixels),
     Refused(u8),
@@ -34,14 +47,13 @@ pub enum Reached {
 // The answer of planning, and of cleaning.
 pub enum Planned {
     Done,
-    Refused(u8),
+    Refused(Refusal),
 }
 
 // The answer of the checker.
 pub enum Judged {
     Accepted,
-    Refused(u8),
-    RefusedAt(u8, Place),
+    Refused(Refusal),
 }
 
 // What reading tells of a job file: the offset of the first byte after the count of each section.
@@ -57,17 +69,17 @@ pub struct Layout {
 // The answer of reading.
 pub enum ReadJob {
     Job(Layout),
-    Refused(u8),
+    Refused(Refusal),
 }
 
 // The answer of copying rings out of a file.
 pub enum CopiedRings {
     Copied,
-    Refused(u8),
+    Refused(Refusal),
 }
 
 // The answer of writing: the job's length.
 pub enum WrittenJob {
     Length(usize),
-    Refused(u8),
+    Refused(Refusal),
 }
