@@ -1,17 +1,18 @@
 -- Laws of the call: what is known where nothing is refused, and what it answers and leaves.
 use mathlib.Core.Path.{_≡_, refl, sym, ap, _∙_}
 use mathlib.Core.Bool.{false}
-use mathlib.Core.List.{List}
+use mathlib.Core.List.{List, []}
 use Prim.Native.Nat.{ℕ, zero, suc, _-_, _*_, _≤_, _<_}
 use native.Mathlib.Omega.{arith}
 use lib.ListN.{length}
-use Rattle.rules.specs.Calls.{settingCases, planCases, planRefusal, planAnswer, planSupport, planRings, cleanRefusal, cleanAnswer, cleanSupport, cleanRings, cleanCleaned}
+use Rattle.rules.specs.Calls.{settingCases, refused, planCases, planRefusal, planAnswer, planSupport, planRings, cleanRefusal, cleanAnswer, cleanSupport, cleanRings, cleanCleaned}
 use Rattle.rules.specs.Cleaning.{mostGap}
 use Rattle.rules.specs.Images.{rowBytes, rowsOf, stackBytes, paddingSet, pixel, bytesOf}
 use Rattle.rules.specs.Outcomes.{Plans, Cleans}
 use Rattle.rules.specs.Planning.{plannedRings, plannedBytes}
 use Rattle.rules.specs.Reach.{boundOf}
 use Rattle.rules.specs.Tools.{refusal, answer}
+use Rattle.rules.specs.declared.Refusal.{Refusal}
 use Rattle.rules.specs.declared.Planned.{Planned}
 use Rattle.rules.specs.declared.Planned.the-variants.{Done, Refused}
 use Rattle.rules.specs.declared.Pixels.{Pixels}
@@ -19,7 +20,7 @@ use Rattle.rules.specs.declared.Settings.{Settings}
 use Rattle.laws.specs.Demand2.{planned-top}
 use Rattle.laws.specs.Demand3.{plannedBytes-clear, plannedBytes-length}
 use Rattle.laws.specs.Refusals.{answer-fine, answer-refused, says-no}
-use Rattle.laws.specs.StackTables.{clean-as-plan, clean-settings, clean-gap, clean-part, clean-length}
+use Rattle.laws.specs.StackTables.{Padded, clean-seven, clean-as-plan, clean-settings, clean-gap, clean-part, clean-length}
 use Rattle.plan.specs.CallLaws.{Planable, planable}
 use Rattle.clean.specs.LayerLaws.{cleaned-bytes}
 use Rattle.clean.specs.Layers.{Early, Lent, cleanBy}
@@ -74,12 +75,20 @@ module _ (s : Settings) (c : Pixels) (part sup rings clean : List ℕ) (k : ℕ)
   abbrev p : ℕ
   p = planRefusal s part (length sup) (length rings)
 
+  -- a refusal of its number
+  abbrev no : ℕ → Planned
+  no i = Refused (refused s part [] i)
+
+  -- a number of 7 is that of padding
+  pub seven : k ≡ 7 → Padded s part
+  seven e = clean-seven s c part (length sup) (length rings) (length clean) (sym (E .refused (λ z. omega arith) part (length sup) (length rings) refl) ∙ e)
+
   -- refused before planning: all lent memory as it was
-  pub refuses : (k ≡ 0 → ⊥) → Cleans s c part sup rings clean (Refused k) sup rings clean
+  pub refuses : (k ≡ 0 → ⊥) → (j : Refusal) → j ≡ refused s part [] k → Cleans s c part sup rings clean (Refused j) sup rings clean
   unfolding cleanAnswer cleanSupport cleanRings cleanCleaned
-  refuses ne =
+  refuses ne j ej =
       let e : k ≡ r = E .refused ne part (length sup) (length rings) refl in
-      record { answer = says-no Done Refused e ne; support = says-no _ (λ j. sup) e ne; rings = says-no _ (λ j. rings) e ne; cleaned = says-no _ (λ j. clean) e ne }
+      record { answer = ap Refused ej ∙ says-no Done no e ne; support = says-no _ (λ j. sup) e ne; rings = says-no _ (λ j. rings) e ne; cleaned = says-no _ (λ j. clean) e ne }
 
   pub clean-size : k ≡ 0 → length clean ≡ s .n * s .h * rowBytes (s .w)
   unfolding stackBytes rowsOf
@@ -91,17 +100,17 @@ module _ (s : Settings) (c : Pixels) (part sup rings clean : List ℕ) (k : ℕ)
     as-plan = clean-as-plan s c part (length sup) (length rings) (length clean) (E .gap z) (E .clean-long z)
 
     -- refused by planning, which leaves its two as they were
-    pub refuses-too : (j : ℕ) → a ≡ Refused j → Cleans s c part sup rings clean (Refused j) sup′ rings′ clean
+    pub refuses-too : (j : Refusal) → a ≡ Refused j → Cleans s c part sup rings clean (Refused j) sup′ rings′ clean
     unfolding cleanAnswer cleanSupport cleanRings cleanCleaned planAnswer planSupport planRings
     refuses-too j e = record {
-      answer = sym e ∙ P .answer ∙ ap (λ (x : ℕ). answer x Done Refused) (sym as-plan);
+      answer = sym e ∙ P .answer ∙ ap (λ (x : ℕ). answer x Done no) (sym as-plan);
       support = P .support ∙ ap (λ (x : ℕ). answer x (plannedBytes (s .w) (s .h) (s .n) (boundOf s) part) (λ i. sup)) (sym as-plan);
       rings = P .rings ∙ ap (λ (x : ℕ). answer x (plannedRings (s .w) (s .h) (s .n) (boundOf s) part) (λ i. rings)) (sym as-plan);
-      cleaned = sym (answer-refused r _ (λ i. clean) (λ y. refused (sym as-plan ∙ y)));
+      cleaned = sym (answer-refused r _ (λ i. clean) (λ y. unplanned (sym as-plan ∙ y)));
     }
       where
-        refused : p ≡ 0 → ⊥
-        refused y = go (sym e ∙ P .answer ∙ ap (λ (x : ℕ). answer x Done Refused) y)
+        unplanned : p ≡ 0 → ⊥
+        unplanned y = go (sym e ∙ P .answer ∙ ap (λ (x : ℕ). answer x Done no) y)
           where
             go : Refused j ≡ Done → ⊥
             go h = let t : _≡_ {A = ℕ} 0 1 = cc in omega arith
@@ -111,7 +120,7 @@ module _ (s : Settings) (c : Pixels) (part sup rings clean : List ℕ) (k : ℕ)
     unfolding planAnswer
     planned e = go p (sym (P .answer) ∙ e)
       where
-        go : (x : ℕ) → answer x Done Refused ≡ Done → x ≡ 0
+        go : (x : ℕ) → answer x Done no ≡ Done → x ≡ 0
         go zero h = refl
         go (suc x) h = absurd (let t : _≡_ {A = ℕ} 0 1 = cc in omega arith)
 
@@ -129,7 +138,7 @@ module _ (s : Settings) (c : Pixels) (part sup rings clean : List ℕ) (k : ℕ)
         → Cleans s c part sup rings clean Done sup′ rings′ clean′
     unfolding cleanAnswer cleanSupport cleanRings cleanCleaned planAnswer planSupport planRings
     cleans e lh clean′ ec = record {
-      answer = sym e ∙ P .answer ∙ ap (λ (x : ℕ). answer x Done Refused) (sym as-plan);
+      answer = sym e ∙ P .answer ∙ ap (λ (x : ℕ). answer x Done no) (sym as-plan);
       support = P .support ∙ ap (λ (x : ℕ). answer x (plannedBytes (s .w) (s .h) (s .n) (boundOf s) part) (λ i. sup)) (sym as-plan);
       rings = P .rings ∙ ap (λ (x : ℕ). answer x (plannedRings (s .w) (s .h) (s .n) (boundOf s) part) (λ i. rings)) (sym as-plan);
       cleaned = ec ∙ cleaned-bytes (s .w) (s .h) (s .n) (boundOf s) c part sup′ lh (support-is e) ∙ sym (answer-fine r _ (λ i. clean) (as-plan ∙ planned e));

@@ -57,10 +57,10 @@ pub fn clean(
 {
     let k = refusal(s, c, part.len(), clean.len());
     if k != 0 {
-        return Planned::Refused(k);
+        return Planned::Refused(limits::stack_refused(k, s, part));
     }
     match plan(s, part, support, rings) {
-        Planned::Refused(k) => Planned::Refused(k),
+        Planned::Refused(r) => Planned::Refused(r),
         Planned::Done => {
             let rb = limits::row_bytes(s.w);
             crate::stack::stack(part, support, clean, s.w, s.h, s.n, rb, c);

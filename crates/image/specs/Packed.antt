@@ -12,7 +12,7 @@ use lib.Dec.{ltb, eqb}
 use lib.ListN.{length, getD, drop, length-take, length-drop}
 use lib.Pow.{field, mod-mod-pow, pow-pos}
 use lib.Seq.{ext-getD, getD-take, getD-drop}
-use Rattle.rules.specs.Images.{Plane, Stack, rowBytes, bitAt, pixel, paddingSet, byteOf, bytesOf}
+use Rattle.rules.specs.Images.{Plane, Stack, rowBytes, bitAt, pixel, padded, paddingSet, byteOf, bytesOf}
 use Rattle.rules.specs.Tools.{bit, each}
 use Rattle.laws.specs.Places.{digits-in}
 use Rattle.laws.specs.Tests.{split, clash, not-in, some-in, getD-each, length-each}
@@ -117,7 +117,7 @@ module _ (w h : ℕ) where
         row-bit (plane (h * rowBytes w) i l) (p / w * rowBytes w) (p % w) ∙ ap (λ (x : ℕ). bitAt x (p % w % 8)) (at-plane i (p / w) (p % w / 8) lr lj)
 
     pub plane-clean : paddingSet w (n * h) l ≡ false → (i : ℕ) → i < n → Clean w h (plane (h * rowBytes w) i l)
-    unfolding paddingSet rowBytes bitAt
+    unfolding padded paddingSet rowBytes bitAt
     plane-clean pad i li = record { long = plane-long (h * rowBytes w) i n l (long ∙ size-of) li; clear = clears }
       where
         T : ℕ → Bool

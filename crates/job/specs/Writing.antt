@@ -1,5 +1,5 @@
 -- What the writing functions know of a job, and what each of their tests says.
-use mathlib.Core.Path.{_≡_, refl, ap}
+use mathlib.Core.Path.{_≡_, refl, sym, ap, _∙_}
 use mathlib.Core.List.{List, _++_}
 use Prim.Native.Nat.{ℕ, _+_, _*_, _≤_}
 use native.Mathlib.Omega.{arith}
@@ -7,7 +7,11 @@ use lib.ListN.{length, length-append}
 use Rattle.rules.specs.Images.{rowsOf}
 use Rattle.rules.specs.Jobs.{Job, put32, put16s, headEnd, partEnd, supportEnd, jobEnd, storedRows, headOf, fileOf, fileLength, over}
 use Rattle.rules.specs.declared.Settings.{Settings}
-use Rattle.laws.specs.JobFiles.{Writable}
+use Rattle.rules.specs.Calls.{writeRefusal}
+use Rattle.laws.specs.Refusals.{lacks}
+use Rattle.laws.specs.StackTables.{Padded, both-seven, both-eight}
+use Rattle.laws.specs.JobFiles.{Writable, stores, writeRoom}
+use Rattle.laws.specs.Demand1.{written-as-both}
 use Rattle.laws.specs.Runs.{after}
 
 -- the job of the writer's arguments
@@ -53,3 +57,12 @@ module _ (s : Settings) (part support rings : List ℕ) (v : Writable (job s par
       let f2 = after d l1 l2 (headOf s) x2 0 14 e1 refl (r .for-head) (rw er at e2) in
       let f3 = after d l2 l3 (headOf s ++ x2) x3 0 (partEnd s) f2 part-ends (omega arith) (rw (ec, ea) at e3) in
       after d l3 l4 (headOf s ++ x2 ++ x3) _ 0 (supportEnd s stored) f3 support-ends (omega arith) (rw (eb, ec) at e4)
+
+-- 7 and 8 are those of padding
+pub padding-told : (s : Settings) (part support rings : List ℕ) (room k : ℕ) → k ≡ writeRefusal (job s part support rings) room → (k ≡ 7 → Padded s part) × (k ≡ 8 → Padded s support)
+unfolding writeRoom lacks
+padding-told s part support rings room k e =
+    let j : Job = job s part support rings in (
+      (λ z. both-seven s (stores j) part support (length rings) (written-as-both j room 6 refl (sym e ∙ z))),
+      (λ z. both-eight s (stores j) part support (length rings) (written-as-both j room 7 refl (sym e ∙ z))),
+    )

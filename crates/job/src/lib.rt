@@ -4,6 +4,7 @@ pub mod writing;
 use crate::writing::put_job;
 use crate::writing::stored_rows;
 use crate::writing::write_refusal;
+use limits::both_refused;
 use rules::CopiedRings;
 use rules::ReadJob;
 use rules::Settings;
@@ -13,6 +14,7 @@ use sections::reading::copy_refusal;
 use sections::reading::layout;
 use sections::reading::part_in;
 use sections::reading::read_refusal;
+use sections::reading::refused_in;
 use sections::reading::settings_in;
 use sections::reading::stored_in;
 use sections::reading::support_in;
@@ -25,7 +27,7 @@ pub fn read(file: &[u8]) -> ReadJob
 {
     let k = read_refusal(file);
     if k != 0 {
-        return ReadJob::Refused(k);
+        return ReadJob::Refused(refused_in(file, k));
     }
     ReadJob::Job(layout(file))
 }
@@ -59,7 +61,7 @@ pub fn copy_rings(file: &[u8], rings: &mut [u16]) -> CopiedRings
 {
     let k = copy_refusal(file, rings.len());
     if k != 0 {
-        return CopiedRings::Refused(k);
+        return CopiedRings::Refused(refused_in(file, k));
     }
     let l = layout(file);
     let at = l.rings;
@@ -73,7 +75,7 @@ pub fn write(s: Settings, part: &[u8], support: &[u8], rings: &[u16], out: &mut 
 {
     let k = write_refusal(s, part, support, rings, out.len());
     if k != 0 {
-        return WrittenJob::Refused(k);
+        return WrittenJob::Refused(both_refused(k, s, part, support));
     }
     put_job(out, s, part, support, rings);
     let c = stored_rows(s, support.len());

@@ -1,25 +1,29 @@
 -- From what the three searches found to the answer.
-use mathlib.Core.Path.{_≡_, refl}
-use mathlib.Core.Bool.{false, true}
+use mathlib.Core.Path.{_≡_, refl, sym, ap, _∙_}
+use mathlib.Core.Bool.{Bool, false, true, cond}
 use mathlib.Core.List.{List}
-use Prim.Native.Nat.{ℕ, _-_, _*_, _/_, _<_, _≤_}
-use native.Mathlib.Nat.{mul-le-mul, div-le-self}
+use Prim.Native.Nat.{ℕ, suc, _+_, _-_, _*_, _/_, _%_, _<_, _≤_}
+use native.Mathlib.Nat.{mul-le-mul, div-le-self, div-add-mod', mod-lt}
+use lib.Arith.{digits-lt, digits-div, digits-mod}
 use native.Mathlib.Omega.{arith}
 use lib.ListN.{length}
 use Rattle.rules.specs.Tools.{nothing, found, refusal}
 use Rattle.rules.specs.Images.{Stack, rowBytes, pixel, rowsOf, stackBytes, ringsIn, ringAt, paddingSet}
 use Rattle.rules.specs.Reach.{boundOf}
-use Rattle.rules.specs.Judging.{overlap, badRing, unheld, firstIn, placeOf, tell, verdict, verdictOf}
-use Rattle.rules.specs.Calls.{bothCases, judgeCases, judgeAnswer}
+use Rattle.rules.specs.Judging.{overlap, badRing, unheld, unheldNumber, firstIn, placeOf, tell, verdict, verdictOf}
+use Rattle.rules.specs.Calls.{bothCases, refused, judgeCases, judgeAnswer}
 use Rattle.rules.specs.Outcomes.{Judges}
 use Rattle.rules.specs.declared.Settings.{Settings}
 use Rattle.rules.specs.declared.Place.{Place}
 use Rattle.rules.specs.declared.Judged.{Judged}
-use Rattle.rules.specs.declared.Judged.the-variants.{Accepted, Refused, RefusedAt}
+use Rattle.rules.specs.declared.Refusal.{Refusal}
+use Rattle.rules.specs.declared.Refusal.the-variants.{AtPixel}
+use Rattle.rules.specs.declared.Judged.the-variants.{Accepted, Refused}
 use Rattle.laws.specs.Refusals.{says-no, says-yes}
 use Rattle.laws.specs.Limits.{Ranged, ranged}
-use Rattle.laws.specs.StackTables.{both-exactly}
-use Rattle.places.specs.Search.{FirstOf, flat, Sized}
+use Rattle.laws.specs.StackTables.{Padded, both-exactly, both-seven, both-eight}
+use Rattle.laws.specs.Places.{digits-in, numberOf, flat-is}
+use Rattle.places.specs.Search.{FirstOf, flat, bitIn, Sized}
 use Rattle.places.specs.Finding.{least-found, least-nothing, least-none}
 use Rattle.quick.specs.Sureness.{Whole, Fine}
 use Rattle.chains.specs.Amiss.{amissIn}
@@ -35,25 +39,27 @@ unfolding firstIn flat
 none-in w h n f r s l = least-nothing (n * (h * w)) (flat w h f) r s l
 
 module _ (w h n : ℕ) (q : ℕ → ℕ) (part sup rings : List ℕ) (o : ℕ) (so : FirstOf 0 (n * (h * w)) (flat w h (overlap (pixel w h part) (pixel w h sup))) o) where
-  pub told-9 : o < n * (h * w) → (r : Place) → r ≡ placeOf w h 0 o → RefusedAt 9 r ≡ verdictOf w h n q part sup rings
+  pub told-9 : o < n * (h * w) → (r : Place) → r ≡ placeOf w h 0 o → Refused (AtPixel 9 r) ≡ verdictOf w h n q part sup rings
   unfolding verdictOf verdict tell
   told-9 l r e = rw (found-in w h n (overlap (pixel w h part) (pixel w h sup)) o so l, e)
 
   module _ (no : n * (h * w) ≤ o) (b : ℕ) (sb : FirstOf 0 ((n - 1) * (h * w)) (flat w h (badRing w h q (pixel w h part) (ringAt w h rings))) b) where
-    pub told-10 : b < (n - 1) * (h * w) → (r : Place) → r ≡ placeOf w h 1 b → RefusedAt 10 r ≡ verdictOf w h n q part sup rings
+    pub told-10 : b < (n - 1) * (h * w) → (r : Place) → r ≡ placeOf w h 1 b → Refused (AtPixel 10 r) ≡ verdictOf w h n q part sup rings
     unfolding verdictOf verdict tell
     told-10 l r e =
         rw (none-in w h n (overlap (pixel w h part) (pixel w h sup)) o so no, found-in w h (n - 1) (badRing w h q (pixel w h part) (ringAt w h rings)) b sb l, e)
 
     module _ (nb : (n - 1) * (h * w) ≤ b) (u : ℕ) (su : FirstOf 0 ((n - 1) * (h * w)) (flat w h (unheld (pixel w h part) (pixel w h sup) (ringAt w h rings))) u) where
-      pub told-11 : u < (n - 1) * (h * w) → (r : Place) → r ≡ placeOf w h 1 u → RefusedAt 11 r ≡ verdictOf w h n q part sup rings
+      pub told-unheld : u < (n - 1) * (h * w) → (k : ℕ) → k ≡ unheldNumber (pixel w h part) (u / (h * w)) (u % (h * w)) → (r : Place) → r ≡ placeOf w h 1 u →
+          Refused (AtPixel k r) ≡ verdictOf w h n q part sup rings
       unfolding verdictOf verdict tell
-      told-11 l r e =
+      told-unheld l k ek r e =
           rw (
             none-in w h n (overlap (pixel w h part) (pixel w h sup)) o so no,
             none-in w h (n - 1) (badRing w h q (pixel w h part) (ringAt w h rings)) b sb nb,
             found-in w h (n - 1)
                 (unheld (pixel w h part) (pixel w h sup) (ringAt w h rings)) u su l,
+            ek,
             e,
           )
 
@@ -70,13 +76,17 @@ module _ (w h n : ℕ) (q : ℕ → ℕ) (part sup rings : List ℕ) (o : ℕ) (
 -- The call ----------------------------------------------------------------------------------------------------------------
 
 module _ (s : Settings) (part sup rings : List ℕ) (a : ℕ) (ea : a ≡ refusal (bothCases s true part sup (length rings))) where
-  pub judged-refused : (a ≡ 0 → ⊥) → Judges s part sup rings (Refused a)
+  -- 7 and 8 are those of padding
+  pub padding-told : (a ≡ 7 → Padded s part) × (a ≡ 8 → Padded s sup)
+  padding-told = ((λ e. both-seven s true part sup (length rings) (sym ea ∙ e)), (λ e. both-eight s true part sup (length rings) (sym ea ∙ e)))
+
+  pub judged-refused : (a ≡ 0 → ⊥) → (r : Refusal) → r ≡ refused s part sup a → Judges s part sup rings (Refused r)
   unfolding judgeAnswer judgeCases
-  judged-refused ne = record { answer = says-no _ Refused ea ne }
+  judged-refused ne r er = record { answer = ap Refused er ∙ says-no _ (λ k. Refused (refused s part sup k)) ea ne }
 
   pub judged-by : a ≡ 0 → (j : Judged) → j ≡ verdictOf (s .w) (s .h) (s .n) (boundOf s) part sup rings → Judges s part sup rings j
   unfolding judgeAnswer judgeCases
-  judged-by z j e = record { answer = says-yes _ Refused ea z e }
+  judged-by z j e = record { answer = says-yes _ (λ k. Refused (refused s part sup k)) ea z e }
 
 -- What the sizes of a job say -----------------------------------------------------------------------------------------------
 
@@ -138,3 +148,41 @@ told-sure s q part sup rings o e so n fine =
     told-accepted (s .w) (s .h) (s .n) (boundOf s) part sup rings o so n m
     (least-none 0 m _ (omega arith) (λ x a l. rw e (fine x l .0))) (omega arith) m
     (least-none 0 m _ (omega arith) (λ x a l. fine x l .1)) (omega arith)
+
+-- An unheld pixel, by its row in the stack --------------------------------------------------------------------------------------
+
+module _ (w h n u : ℕ) (l : u < n * (h * w)) where
+  -- the rows of a stack counted through, and the columns
+  stack-row : (u / w ≡ u / (h * w) * h + u % (h * w) / w) × (u % w ≡ u % (h * w) % w) × (u / w < n * h)
+  stack-row =
+      let (li, lp) = digits-in u n (h * w) l in
+      let i : ℕ = u / (h * w) in
+      let p : ℕ = u % (h * w) in
+      let (lr, lc) = digits-in p h w lp in
+      let nu : (i * h + p / w) * w + p % w ≡ u =
+      sym (flat-is w h i (p / w) (p % w)) ∙ ap (λ (z : ℕ). i * (h * w) + z) (div-add-mod' p w) ∙ div-add-mod' u (h * w) in
+      let d : u / w ≡ i * h + p / w = ap (λ (z : ℕ). z / w) (sym nu) ∙ digits-div (i * h + p / w) lc in
+      (d, ap (λ (z : ℕ). z % w) (sym nu) ∙ digits-mod (i * h + p / w) lc, rw d (digits-lt li lr))
+
+  -- it is a pixel of the part in the layer above, one plane of rows further on
+  pub pixel-above : (s : List ℕ) (at : ℕ) → at ≡ (u / w + h) * rowBytes w → bitIn s at (u % w) ≡ pixel w h s (suc (u / (h * w))) (u % (h * w))
+  unfolding bitIn pixel
+  pixel-above s at e =
+      let (d, m, b) = stack-row in
+      let r : u / w + h ≡ suc (u / (h * w)) * h + u % (h * w) / w = omega arith in
+      rw (e, r, m)
+
+  -- and stands in the bytes of one layer more
+  pub byte-above : (len : ℕ) → 1 ≤ w → len ≡ (n + 1) * h * rowBytes w → (u / w + h) * rowBytes w + u % w / 8 < len
+  unfolding rowBytes
+  byte-above len lw e =
+      let (d, m, b) = stack-row in
+      let row : u / w + h < (n + 1) * h = omega arith in
+      let c : u % w < w = mod-lt u lw in
+      let byte : u % w / 8 < (w + 7) / 8 = omega arith in
+      rw e (digits-lt row byte)
+
+-- and its number
+pub number-is : (part : Stack) (i p : ℕ) (b : Bool) → b ≡ part (suc i) p → cond b 11 19 ≡ unheldNumber part i p
+unfolding unheldNumber
+number-is part i p b e = rw e

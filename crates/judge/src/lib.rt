@@ -1,14 +1,15 @@
 // The checker: the call and its verdict.
 use rules::Judged;
 use rules::Place;
+use rules::Refusal;
 use rules::Settings;
 ghost use mathlib.Core.Path.{_≡_};
 ghost use mathlib.Core.Bool.{false};
-ghost use Prim.Native.Nat.{_<_, _≤_};
+ghost use Prim.Native.Nat.{_-_, _*_, _/_, _%_, _<_, _≤_};
 ghost use lib.ListN.{length};
-ghost use Rattle.rules.specs.Images.{rowsOf, stackBytes, paddingSet, ringsIn};
+ghost use Rattle.rules.specs.Images.{rowsOf, stackBytes, paddingSet, ringsIn, pixel};
 ghost use Rattle.rules.specs.Reach.{boundOf};
-ghost use Rattle.rules.specs.Judging.{placeOf, verdictOf};
+ghost use Rattle.rules.specs.Judging.{unheldNumber, placeOf, verdictOf};
 ghost use Rattle.rules.specs.Outcomes.{Judges};
 ghost use Rattle.laws.specs.Limits.{Ranged};
 ghost use Rattle.places.specs.Search.{Sized};
@@ -21,6 +22,20 @@ fn place_of(x: usize, w: usize, h: usize, up: usize) -> Place
         layer: x / (h * w) + up,
         row: x / w % h,
         column: x % w,
+    }
+}
+
+// The number of an unheld pixel, read off the part in the layer that is told: 11 where it is of the part, and 19 where it is of the support.
+fn unheld_number(s: Settings, part: &[u8], u: usize) -> u8
+    requires { ⌜ Ranged s × ((length (now part) ≡ stackBytes s) × (u < (s .n - 1) * (s .h * s .w))) ⌝ }
+    ensures { λ k. ⌜ k ≡ unheldNumber (pixel (s .w) (s .h) (now (part .entry))) (u / (s .h * s .w)) (u % (s .h * s .w)) ⌝ }
+{
+    let w = s.w;
+    let row = u / w + s.h;
+    if places::bits::pixel_at(part, row * limits::row_bytes(w), u % w) {
+        11
+    } else {
+        19
     }
 }
 
@@ -39,7 +54,7 @@ fn verdict(s: Settings, part: &[u8], support: &[u8], rings: &[u16]) -> Judged
     let pairs = (n - 1) * area;
     let o = places::overlaps::overlap_at(part, support, w, h, n);
     if o < pixels {
-        return Judged::RefusedAt(9, place_of(o, w, h, 0));
+        return Judged::Refused(Refusal::AtPixel(9, place_of(o, w, h, 0)));
     }
     let q = limits::bound_of(s);
     if quick::stack::sure(part, support, rings, w, h, n, q) {
@@ -47,11 +62,12 @@ fn verdict(s: Settings, part: &[u8], support: &[u8], rings: &[u16]) -> Judged
     }
     let b = chains::search::first(part, support, rings, w, h, n, q, true);
     if b < pairs {
-        return Judged::RefusedAt(10, place_of(b, w, h, 1));
+        return Judged::Refused(Refusal::AtPixel(10, place_of(b, w, h, 1)));
     }
     let u = chains::search::first(part, support, rings, w, h, n, q, false);
     if u < pairs {
-        return Judged::RefusedAt(11, place_of(u, w, h, 1));
+        let k = unheld_number(s, part, u);
+        return Judged::Refused(Refusal::AtPixel(k, place_of(u, w, h, 1)));
     }
     Judged::Accepted
 }
@@ -62,7 +78,7 @@ pub fn judge(s: Settings, part: &[u8], support: &[u8], rings: &[u16]) -> Judged
 {
     let a = limits::both_refusal(s, true, part, support, rings.len());
     if a != 0 {
-        return Judged::Refused(a);
+        return Judged::Refused(limits::both_refused(a, s, part, support));
     }
     verdict(s, part, support, rings)
 }

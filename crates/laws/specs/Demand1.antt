@@ -1,7 +1,7 @@
 -- Demand 1, call by call: each number is answered exactly when it is given by the call's table, and nothing is refused exactly when
 -- no condition holds; 7 and 8 tell their first row. Numbers 9, 10, 11 and 19 are told exactly at their first place.
 use mathlib.Core.Path.{_≡_, refl, sym, ap, subst, _∙_}
-use mathlib.Core.Logic.{_↔_, ⊎-elim}
+use mathlib.Core.Logic.{_↔_}
 use mathlib.Core.Bool.{Bool, true, false, not, cond}
 use mathlib.Core.List.{List, [], _∷_, _++_}
 use Prim.Native.Nat.{ℕ, zero, suc, _+_, _-_, _*_, _/_, _%_, _<_}
@@ -11,12 +11,11 @@ use native.Mathlib.Omega.{arith}
 use lib.Arith.{digits-lt, digits-div, digits-mod}
 use lib.Dec.{eqb}
 use lib.ListN.{length, getD}
-use borrow.Author.Tests.{eqb-true}
-use Rattle.rules.specs.Tools.{some, Case, refusal, answer, Found, nothing, found, first}
-use Rattle.rules.specs.Images.{Stack, Rings, rowsOf, paddingSet}
+use Rattle.rules.specs.Tools.{Case, refusal, answer, Found, nothing, found, first}
+use Rattle.rules.specs.Images.{Stack, Rings}
 use Rattle.rules.specs.Reach.{reachOf}
 use Rattle.rules.specs.Judging.{overlap, badRing, unheld, unheldNumber, firstIn, placeOf, tell, verdict}
-use Rattle.rules.specs.Jobs.{Job, headEnd, partEnd, supportCount, supportEnd, ringCount, settingsIn, storedIn, partIn, supportIn, layoutOf, fileLength}
+use Rattle.rules.specs.Jobs.{Job, headEnd, partEnd, supportEnd, ringCount, settingsIn, storedIn, partIn, supportIn, layoutOf, fileLength}
 use Rattle.rules.specs.Calls.{saysReached, saysPlanned, saysSettings, saysRead, saysCopied, saysWritten, reachCases, reachAnswer, planCases, planRefusal}
 use Rattle.rules.specs.Calls.{lengthCases, settingCases, stackCases, refusedIn}
 use Rattle.rules.specs.Calls.{cleanCases, cleanRefusal, cleanAnswer, planAnswer, readCases, readRefusal, readAnswer, copyCases, copyAnswer, writeCases, writeRefusal, writeAnswer}
@@ -36,11 +35,11 @@ use Rattle.rules.specs.declared.ReadJob.{ReadJob}
 use Rattle.rules.specs.declared.ReadJob.the-variants.{Job as IsJob, Refused as NotRead}
 use Rattle.rules.specs.declared.CopiedRings.the-variants.{Copied, Refused as NotCopied}
 use Rattle.rules.specs.declared.WrittenJob.the-variants.{Length, Refused as NotWritten}
-use Rattle.laws.specs.Tests.{split, clash, or-out}
+use Rattle.laws.specs.Tests.{split}
 use Rattle.laws.specs.Refusals.{given-exactly, answer-fine, lacks, never, else-first}
 use Rattle.laws.specs.Padding.{number-exactly, tells}
 use Rattle.laws.specs.StackTables.{stack-seven, both-seven, both-eight, clean-seven}
-use Rattle.laws.specs.JobFiles.{padded-part, padded-support, copy-parts, stores, jobCases, writeRoom, write-parts}
+use Rattle.laws.specs.JobFiles.{read-seven, read-eight, copy-parts, stores, jobCases, writeRoom, write-parts}
 use Rattle.laws.specs.Places.{First, one-is, first-is, first-unique, digits-in, numberOf, flat-is, earlier-less, less-earlier, Nowhere, nowhere-in, nowhere-out}
 
 -- Each call --------------------------------------------------------------------------------------------------------------
@@ -88,17 +87,6 @@ module _ (s : Settings) (c : Pixels) (part : List ℕ) (x y z : ℕ) where
       (λ e. clean-seven s c part x y z e .set)
       (λ e. absurd (never 7 (cleanCases s c part x y z) refl e))
 
--- where reading gives 8 there is support, all of its rows
-pub stored-padding : (f : List ℕ) → readRefusal f ≡ 8 → paddingSet (settingsIn f .w) (rowsOf (settingsIn f)) (supportIn f) ≡ true
-unfolding supportCount paddingSet some
-stored-padding f e = let (w, p) = padded-support f e in go (storedIn f) (w .support-count) p
-  where
-    go : (c : ℕ) → supportCount (settingsIn f) c ≡ true → paddingSet (settingsIn f .w) c (supportIn f) ≡ true → paddingSet (settingsIn f .w) (rowsOf (settingsIn f)) (supportIn f) ≡ true
-    go c r p = ⊎-elim
-        (λ z. clash (rw (eqb-true c 0 z) at p) refl)
-        (λ z. rw (eqb-true c (rowsOf (settingsIn f)) z) at p)
-        (or-out (eqb c 0) (eqb c (rowsOf (settingsIn f))) r)
-
 module _ (f : List ℕ) where
   pub read-refuses : (k : ℕ) → (getD (saysRead (readAnswer f)) 0 0 ≡ suc k) ↔ Given (suc k) (readCases f)
   unfolding readAnswer readRefusal refusedIn
@@ -108,7 +96,7 @@ module _ (f : List ℕ) where
   unfolding readAnswer readRefusal refusedIn
   read-tells =
       tells saysRead (IsJob (layoutOf f)) NotRead (λ j. refl) (readCases f) (settingsIn f) (partIn f) (supportIn f) (λ e. omega arith) (λ e. omega arith)
-      (λ e. padded-part f e .1) (stored-padding f)
+      (λ e. read-seven f e .1 .set) (λ e. read-eight f e .1 .set)
 
   -- copying gives what reading gives before its own 6
   pub copied-as-read : (room k : ℕ) → (6 ≡ suc k → ⊥) → refusal (copyCases f room) ≡ suc k → readRefusal f ≡ suc k
@@ -126,8 +114,8 @@ module _ (f : List ℕ) where
   unfolding copyAnswer refusedIn
   copy-tells room =
       tells saysCopied Copied NotCopied (λ j. refl) (copyCases f room) (settingsIn f) (partIn f) (supportIn f) (λ e. omega arith) (λ e. omega arith)
-      (λ e. padded-part f (copied-as-read room 6 (λ h. omega arith) e) .1)
-      (λ e. stored-padding f (copied-as-read room 7 (λ h. omega arith) e))
+      (λ e. read-seven f (copied-as-read room 6 (λ h. omega arith) e) .1 .set)
+      (λ e. read-eight f (copied-as-read room 7 (λ h. omega arith) e) .1 .set)
 
 module _ (j : Job) (room : ℕ) where
   pub write-refuses : (k : ℕ) → (getD (saysWritten (writeAnswer j room)) 0 0 ≡ suc k) ↔ Given (suc k) (writeCases j room)

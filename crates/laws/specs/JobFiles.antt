@@ -1,23 +1,24 @@
 -- Which job files are accepted, and which jobs are written: each as one list of plain facts, and where the sections end.
 use mathlib.Core.Path.{_≡_, refl, sym, ap, _∙_}
-use mathlib.Core.Logic.{_↔_}
+use mathlib.Core.Logic.{_↔_, ⊎-elim}
 use mathlib.Core.List.{List, [], _∷_, _++_}
 use mathlib.Core.Bool.{Bool, true, false, not, _&&_, cond}
 use Prim.Native.Nat.{ℕ, _+_, _*_, _≤_, _<_, zero-le}
 use native.Mathlib.Nat.{mul-le-mul, zero-mul, le-refl}
 use native.Mathlib.Omega.{arith}
 use lib.Dec.{ltb, eqb}
-use lib.ListN.{length, length-append}
+use lib.ListN.{length, length-append, length-drop}
+use lib.Seq.{length-take-le}
 use borrow.Author.Tests.{eq-eqb, ne-eqb, eqb-true, le-ltb, lt-ltb, ltb-false, not-false}
-use Rattle.rules.specs.Tools.{Case, _when_, refusal}
+use Rattle.rules.specs.Tools.{some, Case, _when_, refusal}
 use Rattle.rules.specs.Images.{rowBytes, rowsOf, stackBytes, ringsIn, paddingSet}
 use Rattle.rules.specs.Jobs.{Job, be32, headEnd, partEnd, supportCount, supportEnd, ringCount, jobEnd, settingsIn, storedIn, partIn, supportIn, storedRows, fileOf, fileLength}
 use Rattle.rules.specs.Calls.{reachCases, settingCases, sectionCases, readCases, readRefusal, copyCases, bothCases, writeCases, writeRefusal}
 use Rattle.rules.specs.declared.Settings.{Settings}
 use Rattle.laws.specs.Refusals.{numbered, orElse, else-both, else-passes, else-first, lacks, never, refusal-append, case-out, case-told, settings-numbered, both-numbered, read-numbered}
-use Rattle.laws.specs.Tests.{and-l, and-r}
+use Rattle.laws.specs.Tests.{and-l, and-r, clash, or-out}
 use Rattle.laws.specs.Limits.{Ranged, ranged, rows-least, stack-most, rings-most}
-use Rattle.laws.specs.StackTables.{Lengths, Both, both-exactly}
+use Rattle.laws.specs.StackTables.{Lengths, Both, both-exactly, Padded}
 use Rattle.laws.specs.Numbers.{length-put16s}
 
 -- A section: its count stands in the file, is allowed, and its contents stand in the file --------------------------------
@@ -149,20 +150,6 @@ accepted-out f e =
     let q = else-both (cond y 7 0) (cond z 8 0) p in
     record { whole = w; part-clear = case-out y 6 0 (q .0) .0; support-clear = case-out z 7 0 (q .1) .0 }
 
--- 7 and 8 are given to files that are whole, for no other table has them
-pub padded-part : (f : List ℕ) → readRefusal f ≡ 7 → WholeFile f × (paddingSet (settingsIn f .w) (rowsOf (settingsIn f)) (partIn f) ≡ true)
-unfolding paddingRefusal lacks
-padded-part f e =
-    let (w, p) = whole-out f 7 (λ cs l z. absurd (never 6 cs (and-l (lacks 7 cs) (lacks 8 cs) l) z)) e in
-    (w, case-told _ 6 (else-first (cond (paddingSet (settingsIn f .w) (rowsOf (settingsIn f)) (partIn f)) 7 0) _ 7 (λ z. never 6 ((8 when paddingSet (settingsIn f .w) (storedIn f) (supportIn f)) ∷ []) refl z) p))
-
-pub padded-support : (f : List ℕ) → readRefusal f ≡ 8 → WholeFile f × (paddingSet (settingsIn f .w) (storedIn f) (supportIn f) ≡ true)
-unfolding paddingRefusal lacks
-padded-support f e =
-    let y : Bool = paddingSet (settingsIn f .w) (rowsOf (settingsIn f)) (partIn f) in
-    let (w, p) = whole-out f 8 (λ cs l z. absurd (never 7 cs (and-r (lacks 7 cs) (lacks 8 cs) l) z)) e in
-    (w, case-told _ 7 (else-passes (cond y 7 0) _ 8 (λ z. absurd (never 7 ((7 when y) ∷ []) refl z)) p .1))
-
 -- how far the sections of a file of the job's length reach
 pub record Rooms (f : List ℕ) : Type 0 where
   pub head : headEnd + 4 ≤ length f
@@ -175,6 +162,46 @@ unfolding jobEnd supportEnd partEnd headEnd
 rooms f a =
     let e = a .ends in
     record { head = omega arith; part = omega arith; support = omega arith; rings = omega arith }
+
+-- the lengths of what a whole file holds
+module _ (f : List ℕ) (a : WholeFile f) where
+  pub part-length : length (partIn f) ≡ stackBytes (settingsIn f)
+  unfolding partIn partEnd
+  part-length = let r = rooms f a in length-take-le _ _ (rw length-drop (omega arith))
+
+  pub support-length : length (supportIn f) ≡ storedIn f * rowBytes (settingsIn f .w)
+  unfolding supportIn supportEnd
+  support-length = let r = rooms f a in length-take-le _ _ (rw length-drop (omega arith))
+
+-- 7 and 8 are given to files that are whole, for no other table has them
+padded-part : (f : List ℕ) → readRefusal f ≡ 7 → WholeFile f × (paddingSet (settingsIn f .w) (rowsOf (settingsIn f)) (partIn f) ≡ true)
+unfolding paddingRefusal lacks
+padded-part f e =
+    let (w, p) = whole-out f 7 (λ cs l z. absurd (never 6 cs (and-l (lacks 7 cs) (lacks 8 cs) l) z)) e in
+    (w, case-told _ 6 (else-first (cond (paddingSet (settingsIn f .w) (rowsOf (settingsIn f)) (partIn f)) 7 0) _ 7 (λ z. never 6 ((8 when paddingSet (settingsIn f .w) (storedIn f) (supportIn f)) ∷ []) refl z) p))
+
+padded-support : (f : List ℕ) → readRefusal f ≡ 8 → WholeFile f × (paddingSet (settingsIn f .w) (storedIn f) (supportIn f) ≡ true)
+unfolding paddingRefusal lacks
+padded-support f e =
+    let y : Bool = paddingSet (settingsIn f .w) (rowsOf (settingsIn f)) (partIn f) in
+    let (w, p) = whole-out f 8 (λ cs l z. absurd (never 7 cs (and-r (lacks 7 cs) (lacks 8 cs) l) z)) e in
+    (w, case-told _ 7 (else-passes (cond y 7 0) _ 8 (λ z. absurd (never 7 ((7 when y) ∷ []) refl z)) p .1))
+
+-- and so both are told of a stack that is whole
+pub read-seven : (f : List ℕ) → readRefusal f ≡ 7 → WholeFile f × Padded (settingsIn f) (partIn f)
+read-seven f e = let (w, p) = padded-part f e in (w, record { settings = w .settings; long = part-length f w; set = p })
+
+pub read-eight : (f : List ℕ) → readRefusal f ≡ 8 → WholeFile f × Padded (settingsIn f) (supportIn f)
+unfolding supportCount stackBytes paddingSet some
+read-eight f e =
+    let s : Settings = settingsIn f in
+    let (w, p) = padded-support f e in
+    let n : length (supportIn f) ≡ storedIn f * rowBytes (s .w) = support-length f w in
+    let c : storedIn f ≡ rowsOf s = ⊎-elim
+    (λ z. clash (rw (eqb-true (storedIn f) 0 z) at p) refl)
+    (λ z. eqb-true (storedIn f) (rowsOf s) z)
+    (or-out (eqb (storedIn f) 0) (eqb (storedIn f) (rowsOf s)) (w .support-count)) in
+    (w, record { settings = w .settings; long = rw c at n; set = rw c at p })
 
 module _ (f : List ℕ) (good : GoodFile f) where
   abbrev a : WholeFile f

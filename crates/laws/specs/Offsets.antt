@@ -22,9 +22,9 @@ use Rattle.rules.specs.declared.CopiedRings.the-variants.{Copied, Refused}
 use Rattle.laws.specs.Refusals.{given-exactly, else-both, case-out, answer-fine, answer-refused}
 use Rattle.laws.specs.Numbers.{length-get16s}
 use Rattle.laws.specs.StackTables.{Lengths}
-use Rattle.laws.specs.JobFiles.{WholeFile, accepted-exactly, rooms, copy-parts, copy-fits, stores, in-order, writable-exactly, longest-job}
+use Rattle.laws.specs.JobFiles.{WholeFile, accepted-exactly, rooms, part-length, support-length, copy-parts, copy-fits, stores, in-order, writable-exactly, longest-job}
 use Rattle.laws.specs.Padding.{refused-number}
-use Rattle.laws.specs.RoundTrips.{part-length, support-length, accepted-writable, same-length}
+use Rattle.laws.specs.RoundTrips.{accepted-writable, same-length}
 
 module _ (f : List ℕ) (e : readRefusal f ≡ 0) where
   abbrev s : Settings

@@ -1,17 +1,17 @@
 -- The first row whose padding is set, and what a refusal of a table tells: 7 and 8 their first row, and any other number nothing else.
 use mathlib.Core.Path.{_≡_, refl, sym, ap, subst, _∙_}
 use mathlib.Core.Logic.{_↔_, ⊎-elim}
-use mathlib.Core.Bool.{true}
+use mathlib.Core.Bool.{true, false}
 use mathlib.Core.List.{List, [], _∷_}
-use Prim.Native.Nat.{ℕ, zero, suc, _+_, _*_, _/_, _%_, _<_}
-use native.Mathlib.Nat.{div-add-mod', mul-one}
+use Prim.Native.Nat.{ℕ, zero, suc, _+_, _-_, _*_, _/_, _%_, _^_, _<_}
+use native.Mathlib.Nat.{div-add-mod', mul-one, zero-mod}
 use native.Mathlib.Omega.{arith}
 use lib.Arith.{digits-lt, digits-div, digits-mod}
 use lib.Dec.{eqb}
 use lib.ListN.{length, getD}
 use borrow.Author.Tests.{ne-eqb}
 use Rattle.rules.specs.Tools.{Found, nothing, found, first, Case, refusal, answer}
-use Rattle.rules.specs.Images.{rowsOf, padded, paddingSet, firstPadded}
+use Rattle.rules.specs.Images.{rowBytes, rowsOf, padded, paddingSet, firstPadded}
 use Rattle.rules.specs.Calls.{saysRefusal, tellRow, refused}
 use Rattle.rules.specs.Demands.{Given, FirstRow, Tells}
 use Rattle.rules.specs.declared.Settings.{Settings}
@@ -101,10 +101,34 @@ module _ (s : Settings) (part sup : List ℕ) where
       split (eqb k 7) (λ t. rw t (number-told (s .h) k (firstPadded s part))) (λ t.
       split (eqb k 8) (λ u. rw (t, u) (number-told (s .h) k (firstPadded s sup))) (λ u. rw (t, u)))
 
+  -- 7 with the part's row, 8 with the support's, and no other with that of the support
+  pub refused-seven : (k : ℕ) → k ≡ 7 → refused s part sup k ≡ tellRow (s .h) k (firstPadded s part)
+  unfolding refused
+  refused-seven k e = rw e
+
+  pub refused-eight : (k : ℕ) → k ≡ 8 → refused s part sup k ≡ tellRow (s .h) k (firstPadded s sup)
+  unfolding refused
+  refused-eight k e = rw e
+
+  pub refused-by-part : (k : ℕ) → (k ≡ 8 → ⊥) → refused s part sup k ≡ refused s part [] k
+  unfolding refused
+  refused-by-part k n = rw (ne-eqb k 8 n)
+
   -- and nothing else where it is neither 7 nor 8
   pub refused-alone : (k : ℕ) → (k ≡ 7 → ⊥) → (k ≡ 8 → ⊥) → refused s part sup k ≡ Number k
   unfolding refused
   refused-alone k a b = rw (ne-eqb k 7 a, ne-eqb k 8 b)
+
+-- without support, no number but 7 tells a place: memory that is empty has no padding
+pub refused-by-number : (s : Settings) (part : List ℕ) (k : ℕ) → (k ≡ 7 → ⊥) → refused s part [] k ≡ Number k
+unfolding refused firstPadded tellRow padded
+refused-by-number s part k n = rw (ne-eqb k 7 n) (split (eqb k 8) (λ t. rw (t, none) refl) (λ t. rw t))
+  where
+    clear : (x : ℕ) → padded (s .w) [] x ≡ false
+    clear x = rw (zero-mod (2 ^ (8 * rowBytes (s .w) - s .w)))
+
+    none : first 0 (rowsOf s) (padded (s .w) []) ≡ nothing
+    none = first-unique 0 (rowsOf s) (padded (s .w) []) (first 0 (rowsOf s) (padded (s .w) [])) nothing (first-is 0 (rowsOf s) (padded (s .w) [])) (none-is (λ x a b. clear x))
 
 -- A call that answers by a table: it says what the refusal says where the table refuses, and else what `fine` says
 module _ {A : Type 0} (says : A → List ℕ) (fine : A) (no : Refusal → A) (r : (j : Refusal) → says (no j) ≡ saysRefusal j) (cs : List Case) (s : Settings) (part sup : List ℕ) where

@@ -21,8 +21,7 @@ use Rattle.rules.specs.declared.Settings.{Settings}
 use Rattle.laws.specs.Tests.{split}
 use Rattle.laws.specs.Refusals.{refusal-append, else-both, else-first, case-out, case-passes, read-numbered}
 use Rattle.laws.specs.Padding.{number-exactly, tells}
-use Rattle.laws.specs.JobFiles.{padded-part}
-use Rattle.laws.specs.Demand1.{stored-padding}
+use Rattle.laws.specs.JobFiles.{read-seven, read-eight}
 
 -- "Input (28 bytes, hexadecimal) .. Whole output": `job 8 1 2 reach 2`, `1 8 0 0`, `0 3 3 2`
 pub report-example :
@@ -238,8 +237,8 @@ module _ (f : List ℕ) where
   unfolding refusedIn
   report-tells =
       tells (λ l. l) (0 ∷ []) saysRefusal (λ j. refl) (reportCases f) (settingsIn f) (partIn f) (supportIn f) (λ e. omega arith) (λ e. omega arith)
-      (λ e. padded-part f (reported-as-read 6 (λ z. omega arith) e) .1)
-      (λ e. stored-padding f (reported-as-read 7 (λ z. omega arith) e))
+      (λ e. read-seven f (reported-as-read 6 (λ z. omega arith) e) .1 .set)
+      (λ e. read-eight f (reported-as-read 7 (λ z. omega arith) e) .1 .set)
 
 pub take-all : (n : ℕ) (l : List ℕ) → length l ≤ n → take n l ≡ l
 take-all n l h = sym (append-nil (take n l)) ∙ ap (λ (x : List ℕ). take n l ++ x) (sym (drop-of-length-le l h)) ∙ take-append-drop n l

@@ -26,7 +26,7 @@ use Rattle.laws.specs.Refusals.{answer-fine, answer-refused}
 use Rattle.laws.specs.Demand1.{read-answers, job-read, write-answers}
 use Rattle.laws.specs.Limits.{Ranged, ranged, rows-most}
 use Rattle.laws.specs.Numbers.{peel16, peel32, peel, peel16s, grow16, grow32, grow, grow16s, length-get16s}
-use Rattle.laws.specs.JobFiles.{copy-fits, WholeFile, GoodFile, accepted-exactly, rooms, rowsStored, Writable, writable-exactly, write-fits, write-short}
+use Rattle.laws.specs.JobFiles.{copy-fits, WholeFile, GoodFile, accepted-exactly, rooms, part-length, support-length, rowsStored, Writable, writable-exactly, write-fits, write-short}
 use Rattle.laws.specs.JobFiles.{stored-most, ring-count-most, length-file}
 
 -- The bytes of a job, section by section, each with all that follows -------------------------------------------------------
@@ -71,18 +71,9 @@ count-back s c k v a e = go (eqb c 0) refl a
         let y : k ≡ 0 → ⊥ = λ q. omega (arith, p2) in
         simp (ne-eqb k 0 y) z
 
--- the lengths of what a whole file holds
 module _ (f : List ℕ) (a : WholeFile f) where
-  pub part-length : length (partIn f) ≡ stackBytes (settingsIn f)
-  unfolding partIn partEnd
-  part-length = let r = rooms f a in length-take-le _ _ (rw length-drop (omega arith))
-
-  pub support-length : length (supportIn f) ≡ storedIn f * rowBytes (settingsIn f .w)
-  unfolding supportIn supportEnd
-  support-length = let r = rooms f a in length-take-le _ _ (rw length-drop (omega arith))
-
   pub support-rows : storedIn f ≡ storedRows (settingsIn f) (length (supportIn f))
-  support-rows = count-back (settingsIn f) (storedIn f) (length (supportIn f)) (ranged (settingsIn f) (a .settings)) (a .support-count) support-length
+  support-rows = count-back (settingsIn f) (storedIn f) (length (supportIn f)) (ranged (settingsIn f) (a .settings)) (a .support-count) (support-length f a)
 
 module _ (f : List ℕ) (good : GoodFile f) where
   abbrev s : Settings

@@ -3,6 +3,8 @@ use rules::Bound;
 use rules::Micrometres;
 use rules::Pixels;
 use rules::Reached;
+use rules::Refusal;
+use rules::RowPlace;
 use rules::Settings;
 ghost use mathlib.Core.Path.{_≡_};
 ghost use mathlib.Core.Bool.{cond};
@@ -11,11 +13,12 @@ ghost use Prim.Native.Nat.{ℕ, _+_, _-_, _*_, _^_, _<_, _≤_};
 ghost use lib.ListN.{length};
 ghost use Rattle.rules.specs.Tools.{_when_, refusal};
 ghost use Rattle.rules.specs.Images as images;
-ghost use Rattle.rules.specs.Images.{rowBytes, rowsOf, stackBytes, ringsIn, paddingSet};
+ghost use Rattle.rules.specs.Images.{rowBytes, rowsOf, stackBytes, ringsIn, paddingSet, firstPadded};
 ghost use Rattle.rules.specs.Reach as rule;
 ghost use Rattle.rules.specs.Reach.{boundOf, mostBound};
 ghost use Rattle.laws.specs.Limits.{Settable, Ranged};
-ghost use Rattle.rules.specs.Calls.{reachCases, settingCases, lengthCases, stackCases, bothCases};
+ghost use Rattle.rules.specs.Calls.{reachCases, settingCases, lengthCases, stackCases, bothCases, tellRow, refused};
+ghost use Rattle.laws.specs.StackTables.{Padded};
 ghost use Rattle.rules.specs.Outcomes.{Reaches};
 ghost use Rattle.limits.specs.Padding.{PaddingRow};
 
@@ -237,4 +240,42 @@ pub fn both_refusal(s: Settings, stored: bool, part: &[u8], support: &[u8], ring
         return a;
     }
     padding_refusal(support, s.w, where_stored(stored, rows_of(s)), 8)
+}
+
+// A refusal with the first row of a stack whose padding is set.
+pub fn row_refused(k: u8, s: Settings, stack: &[u8]) -> Refusal
+    requires { ⌜ Padded s (now stack) ⌝ }
+    ensures { λ r. ⌜ r ≡ tellRow (s .h) k (firstPadded s (now (stack .entry))) ⌝ }
+{
+    let h = s.h;
+    let row = padding_row(stack, s.w, rows_of(s));
+    Refusal::InRow(
+        k,
+        RowPlace {
+            layer: row / h,
+            row: row % h,
+        },
+    )
+}
+
+// The refusal by a number of 1 to 7 of a stack. Its row is looked for only here, so that a call that refuses nothing pays nothing for it.
+pub fn stack_refused(k: u8, s: Settings, part: &[u8]) -> Refusal
+    requires { ⌜ (k ≡ 7 → Padded s (now part)) ⌝ }
+    ensures { λ r. ⌜ r ≡ refused s (now (part .entry)) [] k ⌝ }
+{
+    if k == 7 {
+        return row_refused(k, s, part);
+    }
+    Refusal::Number(k)
+}
+
+// The refusal by a number of 1 to 8 of a stack with its support.
+pub fn both_refused(k: u8, s: Settings, part: &[u8], support: &[u8]) -> Refusal
+    requires { ⌜ (k ≡ 7 → Padded s (now part)) × (k ≡ 8 → Padded s (now support)) ⌝ }
+    ensures { λ r. ⌜ r ≡ refused s (now (part .entry)) (now (support .entry)) k ⌝ }
+{
+    if k == 8 {
+        return row_refused(k, s, support);
+    }
+    stack_refused(k, s, part)
 }

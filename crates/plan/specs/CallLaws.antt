@@ -1,20 +1,21 @@
 -- Laws of the call: what is known where nothing is refused, and what it answers and leaves.
-use mathlib.Core.Path.{_≡_, refl}
+use mathlib.Core.Path.{_≡_, refl, sym, ap, _∙_}
 use mathlib.Core.Bool.{true, false}
-use mathlib.Core.List.{List}
+use mathlib.Core.List.{List, []}
 use Prim.Native.Nat.{ℕ, _-_, _*_}
 use lib.ListN.{length}
-use Rattle.rules.specs.Calls.{stackCases, planCases, planRefusal, planAnswer, planSupport, planRings}
+use Rattle.rules.specs.Calls.{stackCases, refused, planCases, planRefusal, planAnswer, planSupport, planRings}
 use Rattle.rules.specs.Outcomes.{Plans}
 use Rattle.rules.specs.Images.{rowBytes, rowsOf, stackBytes, ringsIn, paddingSet}
 use Rattle.rules.specs.Planning.{plannedRings, plannedBytes}
 use Rattle.rules.specs.Reach.{boundOf}
 use Rattle.rules.specs.Tools.{refusal}
+use Rattle.rules.specs.declared.Refusal.{Refusal}
 use Rattle.rules.specs.declared.Planned.the-variants.{Done, Refused}
 use Rattle.rules.specs.declared.Settings.{Settings}
 use Rattle.laws.specs.Limits.{Ranged, ranged}
 use Rattle.laws.specs.Refusals.{says-no, says-yes}
-use Rattle.laws.specs.StackTables.{stack-exactly}
+use Rattle.laws.specs.StackTables.{Padded, stack-exactly, stack-seven}
 
 -- an input that is not refused
 pub record Planable (s : Settings) (part : List ℕ) (sup k : ℕ) : Type 0 where
@@ -32,10 +33,14 @@ planable s part sup k e =
     record { range = ranged s (v .settings); part-length = l .part-long; support-length = l .support-long; ring-count = l .ring-count; clean = v .part-clear }
 
 module _ (s : Settings) (part sup rings : List ℕ) (k : ℕ) (ek : k ≡ refusal (stackCases s true part (length sup) (length rings))) where
+  -- a number of 7 is that of padding
+  pub seven : k ≡ 7 → Padded s part
+  seven e = stack-seven s true part (length sup) (length rings) (sym ek ∙ e)
+
   -- refused: all lent memory as it was
-  pub refuses : (k ≡ 0 → ⊥) → Plans s part sup rings (Refused k) sup rings
+  pub refuses : (k ≡ 0 → ⊥) → (r : Refusal) → r ≡ refused s part [] k → Plans s part sup rings (Refused r) sup rings
   unfolding planAnswer planSupport planRings planRefusal planCases
-  refuses ne = record { answer = says-no Done Refused ek ne; support = says-no _ (λ j. sup) ek ne; rings = says-no _ (λ j. rings) ek ne }
+  refuses ne r er = record { answer = ap Refused er ∙ says-no Done (λ j. Refused (refused s part [] j)) ek ne; support = says-no _ (λ j. sup) ek ne; rings = says-no _ (λ j. rings) ek ne }
 
   -- planned: the support and the rings of the part
   pub plans : k ≡ 0 → (q : ℕ) → boundOf s ≡ (λ (i : ℕ). q) → (sup' rings' : List ℕ)
@@ -43,7 +48,7 @@ module _ (s : Settings) (part sup rings : List ℕ) (k : ℕ) (ek : k ≡ refusa
       → Plans s part sup rings Done sup' rings'
   unfolding planAnswer planSupport planRings planRefusal planCases
   plans z q eq sup' rings' es eg = record {
-    answer = says-yes Done Refused ek z refl;
+    answer = says-yes Done (λ j. Refused (refused s part [] j)) ek z refl;
     support = says-yes _ (λ j. sup) ek z (rw eq es);
     rings = says-yes _ (λ j. rings) ek z (rw eq eg);
   }

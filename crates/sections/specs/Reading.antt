@@ -10,14 +10,18 @@ use lib.ListN.{length, take, drop, length-drop}
 use lib.Seq.{length-take-le}
 use borrow.Author.Tests.{eq-eqb, ne-eqb, eqb-true, le-ltb, lt-ltb, not-false}
 use Rattle.rules.specs.Tools.{refusal}
-use Rattle.rules.specs.Images.{rowBytes, rowsOf, stackBytes}
+use Rattle.rules.specs.Images.{rowBytes, rowsOf, stackBytes, firstPadded}
 use Rattle.rules.specs.Jobs.{be32, get16s, headEnd, partEnd, supportCount, supportEnd, ringCount, settingsIn, storedIn, partIn, supportIn, ringsStored, layoutOf}
-use Rattle.rules.specs.Calls.{settingCases, sectionCases, readRefusal, copyCases}
+use Rattle.rules.specs.Calls.{settingCases, sectionCases, readRefusal, copyCases, tellRow, refusedIn}
 use Rattle.rules.specs.declared.Settings.{Settings}
+use Rattle.rules.specs.declared.Refusal.{Refusal}
+use Rattle.rules.specs.declared.Refusal.the-variants.{Number}
 use Rattle.laws.specs.Tests.{bool-eq, or-out, or-l}
 use Rattle.laws.specs.Refusals.{else-both, case-out}
 use Rattle.laws.specs.Limits.{ranged, rows-most}
-use Rattle.laws.specs.JobFiles.{Section, section-out, accepted-exactly, rooms, copy-parts}
+use Rattle.laws.specs.StackTables.{Padded}
+use Rattle.laws.specs.Padding.{refused-seven, refused-eight, refused-alone}
+use Rattle.laws.specs.JobFiles.{Section, section-out, WholeFile, accepted-exactly, rooms, read-seven, read-eight, copy-parts}
 
 -- a count that is to be a or b
 abbrev pub oneOf : ℕ → ℕ → ℕ → Bool
@@ -85,10 +89,9 @@ module _ (f : List ℕ) (s : Settings) (c : ℕ) (e : c ≡ be32 f (partEnd s)) 
         room = rw e (v .fits);
       }
 
-  pub stored-accepted : readRefusal f ≡ 0 → s ≡ settingsIn f → Stored f s c
+  pub stored-file : WholeFile f → s ≡ settingsIn f → Stored f s c
   unfolding storedIn
-  stored-accepted z same =
-      let a = accepted-exactly f .0 z in
+  stored-file a same =
       let r = rooms f a in
       let d : c ≡ storedIn f = rw same at e in
       let fine : refusal (settingCases s) ≡ 0 = rw same (a .settings) in
@@ -100,19 +103,21 @@ module _ (f : List ℕ) (s : Settings) (c : ℕ) (e : c ≡ be32 f (partEnd s)) 
         room = rw (d, same) (omega arith);
       }
 
--- what an accepted file has, for its settings
+-- what a whole file has, for its settings
 pub record Behind (f : List ℕ) (s : Settings) : Type 0 where
   pub fine : refusal (settingCases s) ≡ 0
   pub count : partEnd s + 4 ≤ length f
 
-pub behind : (f : List ℕ) (s : Settings) → readRefusal f ≡ 0 → s ≡ settingsIn f → Behind f s
-behind f s z same =
-    let a = accepted-exactly f .0 z in
-    record { fine = rw same (a .settings); count = rw same (rooms f a .part) }
+pub behind : (f : List ℕ) (s : Settings) → WholeFile f → s ≡ settingsIn f → Behind f s
+behind f s a same = record { fine = rw same (a .settings); count = rw same (rooms f a .part) }
 
-pub head-whole : (f : List ℕ) → readRefusal f ≡ 0 → 14 ≤ length f
+pub head-whole : (f : List ℕ) → WholeFile f → 14 ≤ length f
 unfolding headEnd
-head-whole f z = let r = rooms f (accepted-exactly f .0 z) in omega arith
+head-whole f a = let r = rooms f a in omega arith
+
+-- as an accepted file is
+pub whole : (f : List ℕ) → readRefusal f ≡ 0 → WholeFile f
+whole f z = accepted-exactly f .0 z .whole
 
 -- The stretches --------------------------------------------------------------------------------------------------------------
 
@@ -179,5 +184,27 @@ copying f room e =
     let n : ℕ = ringCount (settingsIn f) (storedIn f) in
     let p = else-both (readRefusal f) (cond (not (eqb room n)) 6 0) (sym (copy-parts f room) ∙ e) in
     let k : room ≡ n = eqb-true room n (not-false _ (case-out (not (eqb room n)) 5 0 (p .1) .0)) in
-    let r = rooms f (accepted-exactly f .0 (p .0)) in
+    let r = rooms f (whole f (p .0)) in
     record { accepted = p .0; fits = omega (arith, r .rings); all = rw k }
+
+-- A refusal with its row ----------------------------------------------------------------------------------------------------------
+
+module _ (f : List ℕ) (s : Settings) (k : ℕ) (same : s ≡ settingsIn f) where
+  pub told-part : k ≡ 7 → (l : List ℕ) → l ≡ partIn f → (r : Refusal) → r ≡ tellRow (s .h) k (firstPadded s l) → r ≡ refusedIn f k
+  unfolding refusedIn
+  told-part e l el r er = er ∙ rw (same, el) (sym (refused-seven (settingsIn f) (partIn f) (supportIn f) k e))
+
+  pub told-support : k ≡ 8 → (l : List ℕ) → l ≡ supportIn f → (r : Refusal) → r ≡ tellRow (s .h) k (firstPadded s l) → r ≡ refusedIn f k
+  unfolding refusedIn
+  told-support e l el r er = er ∙ rw (same, el) (sym (refused-eight (settingsIn f) (partIn f) (supportIn f) k e))
+
+  -- the stretch is a stack with padding
+  pub padded-part : readRefusal f ≡ 7 → (l : List ℕ) → l ≡ partIn f → Padded s l
+  padded-part z l el = rw (same, el) (read-seven f z .1)
+
+  pub padded-support : readRefusal f ≡ 8 → (l : List ℕ) → l ≡ supportIn f → Padded s l
+  padded-support z l el = rw (same, el) (read-eight f z .1)
+
+pub told-alone : (f : List ℕ) (k : ℕ) → (k ≡ 7 → ⊥) → (k ≡ 8 → ⊥) → Number k ≡ refusedIn f k
+unfolding refusedIn
+told-alone f k a b = sym (refused-alone (settingsIn f) (partIn f) (supportIn f) k a b)

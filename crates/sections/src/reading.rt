@@ -8,10 +8,12 @@ use crate::sizes::ring_count;
 use crate::sizes::support_end;
 use limits::padding_refusal;
 use limits::row_bytes;
+use limits::row_refused;
 use limits::rows_of;
 use limits::settings_refusal;
 use rules::Layout;
 use rules::Micrometres;
+use rules::Refusal;
 use rules::Settings;
 ghost use mathlib.Core.Path.{_≡_};
 ghost use Prim.Native.Nat.{_+_, _*_, _≤_, _<_};
@@ -21,7 +23,7 @@ ghost use mathlib.Core.Bool.{cond};
 ghost use Rattle.rules.specs.Tools.{refusal};
 ghost use Rattle.rules.specs.Images.{rowBytes, rowsOf};
 ghost use Rattle.rules.specs.Jobs.{be32, headEnd, partEnd, supportCount, supportEnd, ringCount, jobEnd, settingsIn, partIn, supportIn, layoutOf};
-ghost use Rattle.rules.specs.Calls.{settingCases, sectionCases, readRefusal, copyCases};
+ghost use Rattle.rules.specs.Calls.{settingCases, sectionCases, readRefusal, copyCases, refusedIn};
 ghost use Rattle.laws.specs.Refusals.{orElse};
 ghost use Rattle.laws.specs.JobFiles.{paddingRefusal, ringsRefusal, bodyRefusal};
 ghost use Rattle.sections.specs.Reading.{oneOf, Stored};
@@ -237,4 +239,21 @@ pub fn copy_refusal(f: &[u8], room: usize) -> u8
         return 6;
     }
     0
+}
+
+// The refusal of a file by a number of reading or copying: 7 and 8 with the row of their stretch.
+pub fn refused_in(f: &[u8], k: u8) -> Refusal
+    requires { ⌜ (k ≡ 7 → readRefusal (now f) ≡ 7) × (k ≡ 8 → readRefusal (now f) ≡ 8) ⌝ }
+    ensures { λ r. ⌜ r ≡ refusedIn (now (f .entry)) k ⌝ }
+{
+    if k == 7 {
+        let s = settings_in(f);
+        return row_refused(k, s, part_in(f, s));
+    }
+    if k == 8 {
+        let s = settings_in(f);
+        let c = stored_in(f, s);
+        return row_refused(k, s, support_in(f, s, c));
+    }
+    Refusal::Number(k)
 }

@@ -1,11 +1,18 @@
-use Rattle.clean.specs.CallLaws.{lent, bare-top, refuses, refuses-too, known, support-is, clean-size, cleans}
+use Rattle.clean.specs.CallLaws.{lent, bare-top, seven, refuses, refuses-too, known, support-is, clean-size, cleans}
 use native.Mathlib.Omega.{arith}
 use borrow.Author.Needs.{needs}
 use Rattle.clean.proofs.clean.Statement.{statement}
 use Rattle.clean.proofs.clean.Tie as tie
 
 returns : tie.Need-returns
-returns c = let A = c .before .before .before .before .before .before .args in refuses (A .s) (A .c) (A .part .now) (A .support .now) (A .rings .now) (A .clean .now) _ (c .before .refusal .ensures) (c .if1 .taken)
+returns c =
+    let A = c .before .before .before .before .before .before .before .args in
+    refuses (A .s) (A .c) (A .part .now) (A .support .now) (A .rings .now) (A .clean .now) _ (c .before .before .refusal .ensures) (c .before .if1 .taken) _ (c .stack-refused .ensures)
+
+stack-refused-requires : tie.Need-stack-refused-requires
+stack-refused-requires c κs =
+    let A = c .before .before .before .before .before .before .args in
+    seven (A .s) (A .c) (A .part .now) (A .support .now) (A .rings .now) (A .clean .now) _ (c .before .refusal .ensures)
 
 row-bytes-requires : tie.Need-row-bytes-requires
 row-bytes-requires c κs =
@@ -37,7 +44,7 @@ stack-requires c κs =
 returns-2 : tie.Need-returns-2
 returns-2 c =
     let A = c .before .before .before .before .before .before .before .before .before .before .before .before .before .before .before .before .args in
-    refuses-too (A .s) (A .c) (A .part .now) (A .support .now) (A .rings .now) (A .clean .now) _ (c .before .before .before .before .before .before .before .before .before .before .before .refusal .ensures) (c .before .before .before .before .before .before .before .before .before .before .if1 .left) _ _ _ (c .before .before .before .before .before .before .before .plan .ensures) _ (c .before .k .given .1)
+    refuses-too (A .s) (A .c) (A .part .now) (A .support .now) (A .rings .now) (A .clean .now) _ (c .before .before .before .before .before .before .before .before .before .before .before .refusal .ensures) (c .before .before .before .before .before .before .before .before .before .before .if1 .left) _ _ _ (c .before .before .before .before .before .before .before .plan .ensures) _ (c .before .r .given .1)
 
 returns-3 : tie.Need-returns-3
 returns-3 c =
@@ -52,5 +59,5 @@ returns-3 c =
 pub clean-spec : {M : Type 1} → statement M
 clean-spec =
     tie.close
-    (tie.spec (λ c κs. search needs) returns (λ c κs. search needs) (λ c. search needs) (λ c. search needs) row-bytes-requires stack-requires (λ c. search needs) (λ c. search needs) returns-2
+    (tie.spec (λ c κs. search needs) stack-refused-requires returns (λ c κs. search needs) (λ c. search needs) (λ c. search needs) row-bytes-requires stack-requires (λ c. search needs) (λ c. search needs) returns-2
     (λ c. search needs) (λ c. search needs) (λ c. search needs) returns-3)

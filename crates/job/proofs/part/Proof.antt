@@ -3,7 +3,7 @@ use mathlib.Core.List.{[]}
 use denote.Ref.{now}
 use Rattle.rules.specs.Jobs.{partIn}
 use Rattle.rules.specs.Calls.{partAnswer}
-use Rattle.sections.specs.Reading.{head-whole, behind}
+use Rattle.sections.specs.Reading.{whole, head-whole, behind}
 use Rattle.laws.specs.Refusals.{says-no, says-yes}
 use native.Mathlib.Omega.{arith}
 use borrow.Author.Needs.{needs}
@@ -25,6 +25,6 @@ returns-2 c =
 pub part-spec : {M : Type 1} → statement M
 part-spec =
     tie.close
-    (tie.spec (λ c κs. search needs) (λ c. search needs) returns (λ c κs. head-whole _ (sym (c .before .read-refusal .ensures) ∙ c .if1 .left))
-    (λ c κs. let b = behind _ _ (sym (c .before .before .read-refusal .ensures) ∙ c .before .if1 .left) (c .settings-in .ensures) in (b .fine, c .settings-in .ensures, omega (arith, b .count)))
+    (tie.spec (λ c κs. search needs) (λ c. search needs) returns (λ c κs. head-whole _ (whole _ (sym (c .before .read-refusal .ensures) ∙ c .if1 .left)))
+    (λ c κs. let b = behind _ _ (whole _ (sym (c .before .before .read-refusal .ensures) ∙ c .before .if1 .left)) (c .settings-in .ensures) in (b .fine, c .settings-in .ensures, omega (arith, b .count)))
     returns-2)

@@ -3,7 +3,7 @@ use mathlib.Core.List.{[]}
 use denote.Ref.{now}
 use Rattle.rules.specs.Jobs.{supportIn}
 use Rattle.rules.specs.Calls.{supportAnswer}
-use Rattle.sections.specs.Reading.{head-whole, behind, stored-accepted}
+use Rattle.sections.specs.Reading.{whole, head-whole, behind, stored-file}
 use Rattle.laws.specs.Refusals.{says-no, says-yes}
 use borrow.Author.Needs.{needs}
 use Rattle.job.proofs.support.Statement.{statement}
@@ -18,7 +18,7 @@ returns c =
 support-in-requires : tie.Need-support-in-requires
 support-in-requires c κs =
     let b3 = c .before .before .before in
-    stored-accepted _ _ _ (c .stored-in .ensures) (sym (b3 .read-refusal .ensures) ∙ c .before .before .if1 .left) (c .before .settings-in .ensures)
+    stored-file _ _ _ (c .stored-in .ensures) (whole _ (sym (b3 .read-refusal .ensures) ∙ c .before .before .if1 .left)) (c .before .settings-in .ensures)
 
 returns-2 : tie.Need-returns-2
 unfolding supportAnswer
@@ -29,5 +29,5 @@ returns-2 c =
 pub support-spec : {M : Type 1} → statement M
 support-spec =
     tie.close
-    (tie.spec (λ c κs. search needs) (λ c. search needs) returns (λ c κs. head-whole _ (sym (c .before .read-refusal .ensures) ∙ c .if1 .left))
-    (λ c κs. let b = behind _ _ (sym (c .before .before .read-refusal .ensures) ∙ c .before .if1 .left) (c .settings-in .ensures) in (b .fine, b .count)) support-in-requires returns-2)
+    (tie.spec (λ c κs. search needs) (λ c. search needs) returns (λ c κs. head-whole _ (whole _ (sym (c .before .read-refusal .ensures) ∙ c .if1 .left)))
+    (λ c κs. let b = behind _ _ (whole _ (sym (c .before .before .read-refusal .ensures) ∙ c .before .if1 .left)) (c .settings-in .ensures) in (b .fine, b .count)) support-in-requires returns-2)

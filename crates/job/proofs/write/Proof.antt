@@ -1,9 +1,10 @@
 use mathlib.Core.Path.{sym, ap, _∙_}
 use denote.Ref.{now}
 use Rattle.rules.specs.Jobs.{jobEnd, fileLength}
-use Rattle.rules.specs.Calls.{writeAnswer, writeTo}
+use Rattle.rules.specs.Calls.{writeAnswer, writeTo, refused}
 use Rattle.rules.specs.declared.WrittenJob.the-variants.{Length, Refused}
 use Rattle.laws.specs.JobFiles.{writable-exactly}
+use Rattle.job.specs.Writing.{padding-told}
 use Rattle.laws.specs.Refusals.{says-no, says-yes}
 use borrow.Author.Needs.{needs}
 use Rattle.job.proofs.write.Statement.{statement}
@@ -12,12 +13,14 @@ use Rattle.job.proofs.write.Tie as tie
 returns : tie.Need-returns
 unfolding writeAnswer writeTo
 returns c =
-    let b6 = c .before .before .before .before .before .before in
+    let A = c .before .before .before .before .before .before .before .args in
     record {
-      answer = says-no _ Refused (c .before .write-refusal .ensures) (c .if1 .taken);
-      destination = says-no _ (λ k. now (b6 .args .out)) (c .before .write-refusal .ensures)
-          (c .if1 .taken);
+      answer = ap Refused (c .both-refused .ensures) ∙ says-no _ (λ k. Refused (refused (A .s) (A .part .now) (A .support .now) k)) (c .before .before .write-refusal .ensures) (c .before .if1 .taken);
+      destination = says-no _ (λ k. now (A .out)) (c .before .before .write-refusal .ensures) (c .before .if1 .taken);
     }
+
+both-refused-requires : tie.Need-both-refused-requires
+both-refused-requires c κs = let A = c .before .before .before .before .before .before .args in padding-told (A .s) (A .part .now) (A .support .now) (A .rings .now) _ _ (c .before .write-refusal .ensures)
 
 job-end-requires : tie.Need-job-end-requires
 job-end-requires c κs =
@@ -29,13 +32,13 @@ unfolding writeAnswer writeTo fileLength
 returns-2 c =
     let b4 = c .before .before .before .before in let b6 = b4 .before .before in let b7 = b6 .before in let b12 = b7 .before .before .before .before .before in
     record {
-      answer = says-yes _ Refused (b7 .write-refusal .ensures) (b6 .if1 .left) (ap Length (c .job-end .ensures .0 ∙ ap (jobEnd (b12 .args .s)) (c .before .stored-rows .ensures .0)));
+      answer = says-yes _ (λ k. Refused (refused (b12 .args .s) (b12 .args .part .now) (b12 .args .support .now) k)) (b7 .write-refusal .ensures) (b6 .if1 .left) (ap Length (c .job-end .ensures .0 ∙ ap (jobEnd (b12 .args .s)) (c .before .stored-rows .ensures .0)));
       destination = says-yes _ (λ k. now (b12 .args .out)) (b7 .write-refusal .ensures) (b6 .if1 .left) (b4 .put-job .ensures);
     }
 
 pub write-spec : {M : Type 1} → statement M
 write-spec =
     tie.close
-    (tie.spec (λ c κs. search needs) returns (λ c κs. writable-exactly _ _ .0 (sym (c .before .before .write-refusal .ensures) ∙ c .before .if1 .left))
+    (tie.spec (λ c κs. search needs) both-refused-requires returns (λ c κs. writable-exactly _ _ .0 (sym (c .before .before .write-refusal .ensures) ∙ c .before .if1 .left))
     (λ c κs. let b4 = c .before .before .before .before in let b5 = b4 .before in writable-exactly _ _ .0 (sym (b5 .write-refusal .ensures) ∙ b4 .if1 .left) .0 .settings) job-end-requires
     (λ c. search needs) returns-2)

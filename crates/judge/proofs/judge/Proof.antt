@@ -1,13 +1,18 @@
 use borrow.Author.Needs.{needs}
 use mathlib.Core.Path.{_∙_, sym}
-use Rattle.judge.specs.Verdicts.{judged-by, judged-refused, verdict-ready}
+use Rattle.judge.specs.Verdicts.{judged-by, judged-refused, padding-told, verdict-ready}
 use Rattle.judge.proofs.judge.Statement.{statement}
 use Rattle.judge.proofs.judge.Tie as tie
 
 returns : tie.Need-returns
 returns c =
+    let b6 = c .before .before .before .before .before .before in let args = b6 .args in
+    judged-refused (args .s) (args .part .now) (args .support .now) (args .rings .now) _ (c .before .before .both-refusal .ensures) (c .before .if1 .taken) _ (c .both-refused .ensures)
+
+both-refused-requires : tie.Need-both-refused-requires
+both-refused-requires c κs =
     let b5 = c .before .before .before .before .before in let args = b5 .args in
-    judged-refused (args .s) (args .part .now) (args .support .now) (args .rings .now) _ (c .before .both-refusal .ensures) (c .if1 .taken)
+    padding-told (args .s) (args .part .now) (args .support .now) (args .rings .now) _ (c .before .both-refusal .ensures)
 
 verdict-requires : tie.Need-verdict-requires
 verdict-requires c κs =
@@ -22,4 +27,4 @@ returns-2 c =
 pub judge-spec : {M : Type 1} → statement M
 judge-spec =
     tie.close
-    (tie.spec (λ c κs. search needs) returns verdict-requires returns-2)
+    (tie.spec (λ c κs. search needs) both-refused-requires returns verdict-requires returns-2)

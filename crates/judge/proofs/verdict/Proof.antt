@@ -1,4 +1,4 @@
-use Rattle.judge.specs.Verdicts.{first-bad, first-unheld, pixels-most, plane-sized, rings-is, stack-length, told-10, told-11, told-9, told-accepted, told-sure, whole-of}
+use Rattle.judge.specs.Verdicts.{first-bad, first-unheld, pixels-most, plane-sized, rings-is, stack-length, told-10, told-9, told-unheld, told-accepted, told-sure, whole-of}
 use Rattle.laws.specs.Limits.{area-most, rings-most}
 use Rattle.rules.specs.Reach.{boundOf}
 use native.Mathlib.Omega.{arith}
@@ -51,20 +51,25 @@ first-requires-2 c κs =
     let b4 = c .before .before .before .before in let b10 = b4 .before .before .before .before .before .before in let args = b10 .args in
     (whole-of (args .s) (args .part .now) (args .support .now) (args .rings .now) (b10 .pre), b4 .bound-of .ensures .1)
 
+unheld-number-requires : tie.Need-unheld-number-requires
+unheld-number-requires c κs =
+    let b12 = c .before .before .before .before .before .before .before .before .before .before .before .before in
+    (b12 .pre .0, (b12 .pre .1 .0, c .if4 .taken))
+
 place-of-requires-3 : tie.Need-place-of-requires-3
 place-of-requires-3 c κs =
-    let b12 = c .before .before .before .before .before .before .before .before .before .before .before .before in
-    (plane-sized (b12 .args .s) (b12 .pre .0), (omega (arith, rings-most (b12 .args .s) (b12 .pre .0), rings-is (b12 .args .s), c .if4 .taken), omega arith))
+    let b13 = c .before .before .before .before .before .before .before .before .before .before .before .before .before in
+    (plane-sized (b13 .args .s) (b13 .pre .0), (omega (arith, rings-most (b13 .args .s) (b13 .pre .0), rings-is (b13 .args .s), c .before .if4 .taken), omega arith))
 
 returns-4 : tie.Need-returns-4
 returns-4 c =
-    let b2 = c .before .before in let b3 = b2 .before in let b4 = b3 .before in let b7 = b4 .before .before .before in let b8 = b7 .before in let b9 = b8 .before in
+    let b2 = c .before .before .before in let b3 = b2 .before in let b4 = b3 .before in let b7 = b4 .before .before .before in let b8 = b7 .before in let b9 = b8 .before in
     let b13 = b9 .before .before .before .before in let args = b13 .args in
-    told-11 (args .s .w) (args .s .h) (args .s .n) (boundOf (args .s)) (args .part .now) (args .support .now) (args .rings .now) (b9 .overlap-at .result) (b9 .overlap-at .ensures) (b8 .if1 .left)
+    told-unheld (args .s .w) (args .s .h) (args .s .n) (boundOf (args .s)) (args .part .now) (args .support .now) (args .rings .now) (b9 .overlap-at .result) (b9 .overlap-at .ensures) (b8 .if1 .left)
     (b4 .first .result) (first-bad (args .s) (b7 .bound-of .result .0) (args .part .now) (args .support .now) (args .rings .now) (b7 .bound-of .ensures .0) (b4 .first .result)
     (b4 .first .ensures)) (b3 .if3 .left) (b2 .first2 .result)
     (first-unheld (args .s) (b7 .bound-of .result .0) (args .part .now) (args .support .now) (args .rings .now) (b7 .bound-of .ensures .0) (b2 .first2 .result) (b2 .first2 .ensures))
-    (c .before .if4 .taken) (c .place-of3 .result) (c .place-of3 .ensures)
+    (c .before .before .if4 .taken) (c .before .unheld-number .result) (c .before .unheld-number .ensures) (c .place-of3 .result) (c .place-of3 .ensures)
 
 returns-5 : tie.Need-returns-5
 returns-5 c =
@@ -83,4 +88,4 @@ verdict-spec =
     (λ c. omega (arith, pixels-most (c .before .before .before .args .s) (c .before .before .before .pre .0))) (λ c. search needs)
     (λ c. let b3 = c .before .before .before in omega (arith, rings-most (b3 .args .s) (b3 .pre .0), rings-is (b3 .args .s))) overlap-at-requires
     (λ c κs. let b5 = c .before .before .before .before .before in (plane-sized (b5 .args .s) (b5 .pre .0), (omega (arith, pixels-most (b5 .args .s) (b5 .pre .0), c .if1 .taken), omega arith)))
-    returns (λ c κs. c .before .before .before .before .before .pre .0) sure-requires returns-2 first-requires place-of-requires-2 returns-3 first-requires-2 place-of-requires-3 returns-4 returns-5)
+    returns (λ c κs. c .before .before .before .before .before .pre .0) sure-requires returns-2 first-requires place-of-requires-2 returns-3 first-requires-2 unheld-number-requires place-of-requires-3 returns-4 returns-5)

@@ -1,6 +1,6 @@
 use mathlib.Core.Path.{_∙_, sym}
 use lib.ListN.{length}
-use Rattle.plan.specs.CallLaws.{planable, refuses, plans}
+use Rattle.plan.specs.CallLaws.{planable, seven, refuses, plans}
 use native.Mathlib.Omega.{arith}
 use borrow.Author.Needs.{needs}
 use Rattle.plan.proofs.plan.Statement.{statement}
@@ -8,8 +8,14 @@ use Rattle.plan.proofs.plan.Tie as tie
 
 returns : tie.Need-returns
 returns c =
-    let b5 = c .before .before .before .before .before in
-    let A = b5 .args in refuses (A .s) (A .part .now) (A .support .now) (A .rings .now) _ (c .before .stack-refusal .ensures) (c .if1 .taken)
+    let b6 = c .before .before .before .before .before .before in
+    let A = b6 .args in
+    refuses (A .s) (A .part .now) (A .support .now) (A .rings .now) _ (c .before .before .stack-refusal .ensures) (c .before .if1 .taken) _ (c .stack-refused .ensures)
+
+stack-refused-requires : tie.Need-stack-refused-requires
+stack-refused-requires c κs =
+    let A = c .before .before .before .before .before .args in
+    seven (A .s) (A .part .now) (A .support .now) (A .rings .now) _ (c .before .stack-refusal .ensures)
 
 bound-of-requires : tie.Need-bound-of-requires
 bound-of-requires c κs =
@@ -51,4 +57,4 @@ returns-2 c =
 pub plan-spec : {M : Type 1} → statement M
 plan-spec =
     tie.close
-    (tie.spec (λ c κs. search needs) returns bound-of-requires row-bytes-requires stack-requires (λ c. search needs) (λ c. search needs) returns-2)
+    (tie.spec (λ c κs. search needs) stack-refused-requires returns bound-of-requires row-bytes-requires stack-requires (λ c. search needs) (λ c. search needs) returns-2)

@@ -1,7 +1,7 @@
 use mathlib.Core.Path.{sym, _∙_}
 use denote.Ref.{now}
 use Rattle.laws.specs.JobFiles.{copy-parts}
-use Rattle.sections.specs.Reading.{head-whole, behind, rings-right, rings-wrong}
+use Rattle.sections.specs.Reading.{whole, head-whole, behind, rings-right, rings-wrong}
 use Rattle.laws.specs.Refusals.{stops, goes-on}
 use borrow.Author.Needs.{needs}
 use Rattle.sections.proofs.reading.copy_refusal.Statement.{statement}
@@ -27,6 +27,6 @@ returns-3 c =
 pub copy-refusal-spec : {M : Type 1} → statement M
 copy-refusal-spec =
     tie.close
-    (tie.spec (λ c κs. search needs) returns (λ c κs. head-whole _ (sym (c .before .read-refusal .ensures) ∙ c .if1 .left))
-    (λ c κs. let b = behind _ _ (sym (c .before .before .read-refusal .ensures) ∙ c .before .if1 .left) (c .settings-in .ensures) in (b .fine, b .count))
-    (λ c κs. let b3 = c .before .before .before in behind _ _ (sym (b3 .read-refusal .ensures) ∙ c .before .before .if1 .left) (c .before .settings-in .ensures) .fine) returns-2 returns-3)
+    (tie.spec (λ c κs. search needs) returns (λ c κs. head-whole _ (whole _ (sym (c .before .read-refusal .ensures) ∙ c .if1 .left)))
+    (λ c κs. let b = behind _ _ (whole _ (sym (c .before .before .read-refusal .ensures) ∙ c .before .if1 .left)) (c .settings-in .ensures) in (b .fine, b .count))
+    (λ c κs. let b3 = c .before .before .before in behind _ _ (whole _ (sym (b3 .read-refusal .ensures) ∙ c .before .before .if1 .left)) (c .before .settings-in .ensures) .fine) returns-2 returns-3)
