@@ -54,15 +54,6 @@ static uint64_t ring_index(struct size s, uint64_t plane, uint64_t row, uint64_t
     return (plane * s.h + row) * s.w + column;
 }
 
-static int padding_set(const uint8_t *stack, struct size s)
-{
-    for (uint64_t layer = 0; layer < s.n; layer++)
-        for (uint64_t row = 0; row < s.h; row++)
-            for (uint64_t column = s.w; column < 8 * row_bytes(s); column++)
-                if (filled(stack, s, layer, row, column)) return 1;
-    return 0;
-}
-
 /* ---- Answers ---- */
 
 static kg_answer refused(unsigned number) { return number; }
@@ -103,6 +94,18 @@ static unsigned size_or_setting_refusal(struct size s, uint32_t pitch, uint32_t 
     unsigned number = size_refusal(s);
     if (number != 0) return number;
     return setting_refusal(pitch, overhang);
+}
+
+/* ---- Refusals 7 and 8 ---- */
+
+/* The number with the first row, by layer and then row, whose padding is set; nothing where none is. A row has no column. */
+static kg_answer find_padding(unsigned number, const uint8_t *stack, struct size s)
+{
+    for (uint64_t layer = 0; layer < s.n; layer++)
+        for (uint64_t row = 0; row < s.h; row++)
+            for (uint64_t column = s.w; column < 8 * row_bytes(s); column++)
+                if (filled(stack, s, layer, row, column)) return refused_at(number, layer, row, 0);
+    return value(0);
 }
 
 /* ---- Planes of a pair ---- */
@@ -237,7 +240,8 @@ kg_answer peer_plan(uint64_t w, uint64_t h, uint64_t n, uint32_t pitch, uint32_t
     if (part_len != stack_bytes(s)) return refused(4);
     if (support_len != stack_bytes(s)) return refused(5);
     if (rings_len != ring_count(s)) return refused(6);
-    if (padding_set(part, s)) return refused(7);
+    kg_answer padding = find_padding(7, part, s);
+    if (padding != 0) return padding;
     plan(s, pitch, overhang, part, support, rings);
     return value(0);
 }
@@ -326,7 +330,8 @@ kg_answer peer_clean(uint64_t w, uint64_t h, uint64_t n, uint32_t pitch, uint32_
     if (part_len != stack_bytes(s)) return refused(4);
     if (support_len != stack_bytes(s) || cleaned_len != stack_bytes(s)) return refused(5);
     if (rings_len != ring_count(s)) return refused(6);
-    if (padding_set(part, s)) return refused(7);
+    kg_answer padding = find_padding(7, part, s);
+    if (padding != 0) return padding;
     plan(s, pitch, overhang, part, support, rings);
     clean(s, gap, part, support, rings, cleaned);
     return value(0);
@@ -361,6 +366,12 @@ static int is_unheld(struct pair p, const uint8_t *support, const uint16_t *plan
     return above && !below && plane[row * p.s.w + column] == 0;
 }
 
+/* What is told of an unheld pixel: 11 where it is part, 19 where it is support. */
+static unsigned unheld_number(struct pair p, uint64_t row, uint64_t column)
+{
+    return filled(p.part, p.s, p.below + 1, row, column) ? 11 : 19;
+}
+
 static kg_answer find_overlap(struct size s, const uint8_t *part, const uint8_t *support)
 {
     for (uint64_t layer = 0; layer < s.n; layer++)
@@ -371,8 +382,10 @@ static kg_answer find_overlap(struct size s, const uint8_t *part, const uint8_t 
     return value(0);
 }
 
-/* The first bad ring (number 10) or the first unheld pixel (number 11) of all pairs. */
-static kg_answer find_in_pairs(unsigned number, struct size s, uint32_t pitch, uint32_t overhang, const uint8_t *part,
+enum sought { BAD_RING, UNHELD };
+
+/* The first bad ring or the first unheld pixel of all pairs. */
+static kg_answer find_in_pairs(enum sought sought, struct size s, uint32_t pitch, uint32_t overhang, const uint8_t *part,
                                const uint8_t *support, const uint16_t *rings)
 {
     for (uint64_t below = 0; below + 1 < s.n; below++) {
@@ -385,7 +398,8 @@ static kg_answer find_in_pairs(unsigned number, struct size s, uint32_t pitch, u
         p.overhang = overhang;
         for (uint64_t row = 0; row < s.h; row++)
             for (uint64_t column = 0; column < s.w; column++) {
-                int found = number == 10 ? is_bad_ring(p, plane, row, column) : is_unheld(p, support, plane, row, column);
+                int found = sought == BAD_RING ? is_bad_ring(p, plane, row, column) : is_unheld(p, support, plane, row, column);
+                unsigned number = sought == BAD_RING ? 10 : unheld_number(p, row, column);
                 if (found) return refused_at(number, below + 1, row, column);
             }
     }
@@ -397,9 +411,9 @@ static kg_answer judge(struct size s, uint32_t pitch, uint32_t overhang, const u
 {
     kg_answer overlap = find_overlap(s, part, support);
     if (overlap != 0) return overlap;
-    kg_answer bad_ring = find_in_pairs(10, s, pitch, overhang, part, support, rings);
+    kg_answer bad_ring = find_in_pairs(BAD_RING, s, pitch, overhang, part, support, rings);
     if (bad_ring != 0) return bad_ring;
-    return find_in_pairs(11, s, pitch, overhang, part, support, rings);
+    return find_in_pairs(UNHELD, s, pitch, overhang, part, support, rings);
 }
 
 kg_answer peer_check(uint64_t w, uint64_t h, uint64_t n, uint32_t pitch, uint32_t overhang,
@@ -413,8 +427,9 @@ kg_answer peer_check(uint64_t w, uint64_t h, uint64_t n, uint32_t pitch, uint32_
     if (part_len != stack_bytes(s)) return refused(4);
     if (support_len != stack_bytes(s)) return refused(5);
     if (rings_len != ring_count(s)) return refused(6);
-    if (padding_set(part, s)) return refused(7);
-    if (padding_set(support, s)) return refused(8);
+    kg_answer padding = find_padding(7, part, s);
+    if (padding == 0) padding = find_padding(8, support, s);
+    if (padding != 0) return padding;
     return judge(s, pitch, overhang, part, support, rings);
 }
 
@@ -492,7 +507,7 @@ static unsigned read_rings(struct reader *r, struct job *job)
     return read_contents(r, count * 2, &job->rings_at);
 }
 
-static unsigned read_job(const uint8_t *file, uint64_t len, struct job *job)
+static kg_answer read_job(const uint8_t *file, uint64_t len, struct job *job)
 {
     struct reader r;
     r.file = file;
@@ -502,19 +517,19 @@ static unsigned read_job(const uint8_t *file, uint64_t len, struct job *job)
     if (number == 0) number = read_part(&r, job);
     if (number == 0) number = read_support(&r, job);
     if (number == 0) number = read_rings(&r, job);
-    if (number != 0) return number;
-    if (r.at < len) return 14;
-    if (padding_set(file + job->part_at, job->s)) return 7;
-    if (job->stored && padding_set(file + job->support_at, job->s)) return 8;
-    return 0;
+    if (number != 0) return refused(number);
+    if (r.at < len) return refused(14);
+    kg_answer padding = find_padding(7, file + job->part_at, job->s);
+    if (padding == 0 && job->stored) padding = find_padding(8, file + job->support_at, job->s);
+    return padding;
 }
 
 kg_answer peer_read(const uint8_t *file, uint64_t file_len, uint64_t *told, uint64_t told_len)
 {
     struct job job;
     uint64_t all[KG_TOLD];
-    unsigned number = read_job(file, file_len, &job);
-    if (number != 0) return refused(number);
+    kg_answer refusal = read_job(file, file_len, &job);
+    if (refusal != 0) return refusal;
     all[KG_WIDTH] = job.s.w;
     all[KG_HEIGHT] = job.s.h;
     all[KG_LAYERS] = job.s.n;
@@ -549,8 +564,8 @@ kg_stretch peer_support(const uint8_t *file, uint64_t file_len)
 kg_answer peer_copy_rings(const uint8_t *file, uint64_t file_len, uint16_t *rings, uint64_t rings_len)
 {
     struct job job;
-    unsigned number = read_job(file, file_len, &job);
-    if (number != 0) return refused(number);
+    kg_answer refusal = read_job(file, file_len, &job);
+    if (refusal != 0) return refusal;
     if (rings_len != stored_rings(&job)) return refused(6);
     for (uint64_t k = 0; k < rings_len; k++) rings[k] = (uint16_t)number16(file, job.rings_at + 2 * k);
     return value(0);
@@ -611,8 +626,9 @@ kg_answer peer_write(uint64_t w, uint64_t h, uint64_t n, uint32_t pitch, uint32_
     if (part_len != stack_bytes(s)) return refused(4);
     if (support_len != 0 && support_len != stack_bytes(s)) return refused(5);
     if (rings_len != (support_len == 0 ? 0 : ring_count(s))) return refused(6);
-    if (padding_set(part, s)) return refused(7);
-    if (support_len != 0 && padding_set(support, s)) return refused(8);
+    kg_answer padding = find_padding(7, part, s);
+    if (padding == 0 && support_len != 0) padding = find_padding(8, support, s);
+    if (padding != 0) return padding;
     uint64_t length = 4 + 10 + 4 + part_len + 4 + support_len + 4 + 2 * rings_len;
     if (length > 4294967295u) return refused(15);
     if (out_len < length) return refused(16);
@@ -677,21 +693,30 @@ static void report_job(struct text *t, const struct job *job, const uint8_t *par
     free(rings);
 }
 
+/* The number, and for padding its layer and row. */
+static void report_refusal(struct text *t, kg_answer refusal)
+{
+    unsigned number = kg_number(refusal);
+    char line[64];
+    if (number == 7 || number == 8)
+        snprintf(line, sizeof line, "refused %u %u %u\n", number, kg_layer(refusal), kg_row(refusal));
+    else
+        snprintf(line, sizeof line, "refused %u\n", number);
+    put_line(t, line);
+}
+
 uint64_t peer_report(const uint8_t *file, uint64_t file_len, char *out, uint64_t cap)
 {
     struct job job;
     struct text t;
-    unsigned number = file_len > 65536 ? 17 : read_job(file, file_len, &job);
+    kg_answer refusal = file_len > 65536 ? refused(17) : read_job(file, file_len, &job);
     t.out = out;
     t.cap = cap;
     t.len = 0;
-    if (number == 0 && ring_count(job.s) > 32768) number = 17;
-    if (number != 0) {
-        char line[32];
-        snprintf(line, sizeof line, "refused %u\n", number);
-        put_line(&t, line);
-    } else {
+    if (refusal == 0 && ring_count(job.s) > 32768) refusal = refused(17);
+    if (refusal != 0)
+        report_refusal(&t, refusal);
+    else
         report_job(&t, &job, file + job.part_at);
-    }
     return t.len;
 }

@@ -44,6 +44,18 @@ static const struct piece pieces[] = {
     {"m", CHECK, 8, 1, 2, 200, {0xE0, 0xFF}, {0x27, 0x00}, RINGS_OF_B, 9, 0, 0, 2},
     {"a seed with a ring serves no ring 1", CHECK, 8, 1, 2, 200, {0x07, 0xFF}, {0xE0, 0x00}, {0, 0, 0, 0, 1, 9}, 10, 1, 0, 4},
     {"two rings lean on each other", CHECK, 8, 1, 2, 300, {0xE0, 0xF7}, {0x00}, {0, 0, 0, 1, 0, 1, 2}, 10, 1, 0, 5},
+    {"support over nothing", CHECK, 8, 1, 2, 200, {0xE0, 0xF0}, {0x00, 0x01}, {0, 0, 0, 1}, 19, 1, 0, 7},
+    {"support over part, and over support", CHECK, 8, 1, 3, 200, {0xE0, 0xE0, 0x00}, {0x01, 0x01, 0x81}, {0}, 0, 0, 0, 0},
+    {"support of one layer", CHECK, 8, 1, 1, 200, {0x00}, {0xFF}, {0}, 0, 0, 0, 0},
+    {"in a row, support hangs first", CHECK, 8, 1, 2, 200, {0xE0, 0xF1}, {0x00, 0x04}, {0, 0, 0, 1}, 19, 1, 0, 5},
+    {"in a row, part hangs first", CHECK, 8, 1, 2, 200, {0xE0, 0xF4}, {0x00, 0x01}, {0, 0, 0, 1}, 11, 1, 0, 5},
+    {"in an earlier row, support hangs", CHECK, 8, 2, 2, 0, {0xE0, 0xE0, 0xE0, 0xF0}, {0x00, 0x00, 0x01, 0x00}, {0}, 19, 1, 0, 7},
+    {"in an earlier row, part hangs", CHECK, 8, 2, 2, 0, {0xE0, 0xE0, 0xE1, 0xE0}, {0x00, 0x00, 0x00, 0x10}, {0}, 11, 1, 0, 7},
+    {"in a lower layer, support hangs", CHECK, 8, 1, 3, 0, {0xE0, 0xE0, 0xF0}, {0x00, 0x02, 0x00}, {0}, 19, 1, 0, 6},
+    {"in a lower layer, part hangs", CHECK, 8, 1, 3, 0, {0xE0, 0xE1, 0xE1}, {0x00, 0x00, 0x10}, {0}, 11, 1, 0, 7},
+    {"a bad ring above support that hangs", CHECK, 8, 1, 3, 200, {0xE0, 0xE0, 0xE0}, {0x00, 0x01, 0x00},
+     {0, 0, 0, 0, 0, 0, 0, 0, 0, 0, 0, 0, 1}, 10, 2, 0, 4},
+    {"an overlap above support that hangs", CHECK, 8, 1, 3, 200, {0xE0, 0xE0, 0xE0}, {0x00, 0x01, 0x80}, {0}, 9, 2, 0, 0},
 };
 
 /* Cleaning: part and support as they are planned with pitch 100, and the cleaned support. */
@@ -75,6 +87,35 @@ static const struct clean_piece clean_pieces[] = {
     {"a hole as the disc of 1, gap 2", 5, 5, 2, 0, 2, {0, 0, 0, 0, 0, 0xF8, 0xD8, 0x88, 0xD8, 0xF8}, {0xF8, 0xD8, 0x88, 0xD8, 0xF8}, {0},
      {0xF8, 0xF8, 0xF8, 0xF8, 0xF8}},
     {"a corner beside the disc of 1", 2, 2, 2, 0, 1, {0x00, 0x00, 0x80, 0x40}, {0x80, 0x40}, {0}, {0xC0, 0xC0}},
+};
+
+/* Stacks with padding set, and the refusal of the calls that look at both. */
+struct padded {
+    const char *name;
+    uint64_t w, h, n;
+    uint8_t part[MOST], support[MOST];
+    unsigned number, layer, row;
+};
+
+static const struct padded padded[] = {
+    {"7 in the first row", 5, 2, 3, {0xF9, 0xF8, 0xF8, 0xF8, 0xF8, 0xF8}, {0}, 7, 0, 0},
+    {"7 in the second row", 5, 2, 3, {0xF8, 0xFC, 0xF8, 0xF8, 0xF8, 0xF8}, {0}, 7, 0, 1},
+    {"7 in layer 1", 5, 2, 3, {0xF8, 0xF8, 0xFA, 0xF8, 0xF8, 0xF8}, {0}, 7, 1, 0},
+    {"7 in the last row", 5, 2, 3, {0x00, 0x00, 0x00, 0x00, 0x00, 0x01}, {0}, 7, 2, 1},
+    {"7 in three rows", 5, 2, 3, {0xF8, 0xF8, 0xF8, 0xFF, 0xF9, 0xFA}, {0}, 7, 1, 1},
+    {"7 in a later row of layer 0, and in row 0 above", 5, 2, 3, {0x00, 0x01, 0x07, 0x00, 0x00, 0x00}, {0}, 7, 0, 1},
+    {"8 in the first row", 5, 2, 3, {0}, {0x01}, 8, 0, 0},
+    {"8 in layer 2", 5, 2, 3, {0xF8, 0xF8, 0xF8, 0xF8, 0xF8, 0xF8}, {0x00, 0x00, 0x00, 0x00, 0x04, 0x00}, 8, 2, 0},
+    {"8 in three rows", 5, 2, 3, {0}, {0x00, 0x00, 0x00, 0x06, 0x01, 0x07}, 8, 1, 1},
+    {"both, the support's row before the part's", 5, 2, 3, {0x00, 0x00, 0x00, 0x01, 0x00, 0x01}, {0x00, 0x01}, 7, 1, 1},
+    {"both, the part's row before the support's", 5, 2, 3, {0x00, 0x00, 0x02}, {0x00, 0x00, 0x00, 0x00, 0x00, 0x02}, 7, 1, 0},
+    {"both, in the same row", 5, 2, 3, {0x00, 0x00, 0x00, 0x00, 0x04}, {0x00, 0x00, 0x00, 0x00, 0x01}, 7, 2, 0},
+    {"one row of seven pixels", 7, 1, 1, {0xFF}, {0}, 7, 0, 0},
+    {"one pixel, four layers", 1, 1, 4, {0x80, 0x80, 0x80, 0xC0}, {0}, 7, 3, 0},
+    {"one layer of four rows", 1, 4, 1, {0x00, 0x80, 0x00, 0x00}, {0x00, 0x00, 0x40, 0x40}, 8, 0, 2},
+    {"rows of nine pixels", 9, 1, 3, {0xFF, 0x80, 0xFF, 0x80, 0xFF, 0xC0}, {0}, 7, 2, 0},
+    {"rows of nine pixels, the last bit", 9, 2, 1, {0}, {0x00, 0x00, 0x00, 0x01}, 8, 0, 1},
+    {"rows of fifteen pixels", 15, 1, 2, {0xFF, 0xFE, 0xFF, 0xFF}, {0xFF, 0xFF, 0xFF, 0xFF}, 7, 1, 0},
 };
 
 struct reach {
@@ -186,6 +227,65 @@ static void try_clean_piece(const struct clean_piece *p, side *of, const char *w
     trial_free(&t);
 }
 
+/* A refusal at a row. */
+static uint64_t at_row(unsigned number, unsigned layer, unsigned row) { return number | (uint64_t)layer << 16 | (uint64_t)row << 32; }
+
+/* The job of such stacks, with rings of 0; its counts are below 256. */
+static uint64_t put_job(const struct trial *t, const struct padded *p, uint8_t *file)
+{
+    uint64_t bytes = stack_bytes_of(t), rows = t->n * t->h;
+    uint8_t head[18] = {0, 0, 0, 5, 0, 0, 0, 0, 0, 0, 0, 100, 0, 200, 0, 0, 0, 0};
+    head[5] = (uint8_t)t->w;
+    head[7] = (uint8_t)t->h;
+    head[9] = (uint8_t)t->n;
+    head[17] = (uint8_t)rows;
+    memset(file, 0, job_bytes_of(t, 1));
+    memcpy(file, head, sizeof head);
+    memcpy(file + 18, p->part, bytes);
+    file[18 + bytes + 3] = (uint8_t)rows;
+    memcpy(file + 22 + bytes, p->support, bytes);
+    file[22 + 2 * bytes + 3] = (uint8_t)ring_count_of(t);
+    return job_bytes_of(t, 1);
+}
+
+static void lend_padded(struct trial *t, const struct padded *p, enum call call)
+{
+    uint8_t file[512];
+    memset(t, 0, sizeof *t);
+    t->call = call;
+    t->w = p->w;
+    t->h = p->h;
+    t->n = p->n;
+    t->pitch = 100;
+    t->overhang = 200;
+    buffer_put(t, PART_STACK, p->part, stack_bytes_of(t));
+    buffer_put(t, SUPPORT_STACK, p->support, stack_bytes_of(t));
+    buffer_make(t, RING_PLANES, ring_count_of(t));
+    buffer_make(t, CLEANED_STACK, stack_bytes_of(t));
+    buffer_put(t, JOB_FILE, file, put_job(t, p, file));
+    buffer_make(t, TOLD, KG_TOLD);
+    buffer_make(t, OUT, job_bytes_of(t, 1));
+}
+
+/* Asks every call that is lent such stacks or their job. Planning and cleaning do not look at support; part and support give no number. */
+static void try_padded(const struct padded *p, side *of, const char *who)
+{
+    static const enum call calls[] = {PLAN, CLEAN, CHECK, READ, PART, SUPPORT, COPY_RINGS, WRITE};
+    for (size_t k = 0; k < sizeof calls / sizeof *calls; k++) {
+        struct trial t;
+        struct outcome o;
+        char what[120];
+        int planned = calls[k] == PLAN || calls[k] == CLEAN, handed = calls[k] == PART || calls[k] == SUPPORT;
+        uint64_t answer = handed || (planned && p->number == 8) ? 0 : at_row(p->number, p->layer, p->row);
+        lend_padded(&t, p, calls[k]);
+        ask(of, &t, &o);
+        snprintf(what, sizeof what, "%s, %s", call_names[calls[k]], p->name);
+        expect(o.signal == 0 && o.answer == answer, who, what);
+        free_outcome_of(of, &o);
+        trial_free(&t);
+    }
+}
+
 /* ---- Limits ---- */
 
 static void try_reaches(side *of, const char *who)
@@ -285,7 +385,7 @@ static void try_sizes(side *of, const char *who)
 }
 
 /* Cleaning two layers of one row of seven pixels, the rings and stacks so much longer, is done or refused. */
-static void try_cleaning(uint32_t overhang, uint64_t gap, const unsigned longer[CLEANED_STACK + 1], uint8_t part, unsigned number,
+static void try_cleaning(uint32_t overhang, uint64_t gap, const unsigned longer[CLEANED_STACK + 1], uint8_t part, uint64_t answer,
                          side *of, const char *who)
 {
     struct trial t;
@@ -303,8 +403,8 @@ static void try_cleaning(uint32_t overhang, uint64_t gap, const unsigned longer[
         buffer_make(&t, (enum lent)which, (which == RING_PLANES ? ring_count_of(&t) : stack_bytes_of(&t)) + longer[which]);
     t.lent[PART_STACK].bytes[1] = part;
     ask(of, &t, &o);
-    snprintf(what, sizeof what, "cleaning with gap %llu and refusal %u", (unsigned long long)gap, number);
-    expect(o.signal == 0 && o.answer == number, who, what);
+    snprintf(what, sizeof what, "cleaning with gap %llu and refusal %u", (unsigned long long)gap, kg_number(answer));
+    expect(o.signal == 0 && o.answer == answer, who, what);
     free_outcome_of(of, &o);
     trial_free(&t);
 }
@@ -325,7 +425,7 @@ static void try_cleanings(side *of, const char *who)
     try_cleaning(200, 32, cleaned, 0x01, 5, of, who);
     try_cleaning(200, 32, cleaned_alone, 0x02, 5, of, who);
     try_cleaning(200, 32, rings, 0x01, 6, of, who);
-    try_cleaning(200, 32, right, 0x01, 7, of, who);
+    try_cleaning(200, 32, right, 0x01, at_row(7, 1, 0), of, who);
 }
 
 /* ---- The example file ---- */
@@ -353,8 +453,8 @@ static void try_reading(side *of, const char *who)
     trial_free(&t);
 }
 
-/* The first `len` bytes of the example, one byte changed, are refused with a number. */
-static void try_damaged(uint64_t len, uint64_t at, uint8_t byte, unsigned number, side *of, const char *who)
+/* The first `len` bytes of the example, one byte changed, are refused. */
+static void try_damaged(uint64_t len, uint64_t at, uint8_t byte, uint64_t answer, side *of, const char *who)
 {
     struct trial t;
     struct outcome o;
@@ -367,7 +467,7 @@ static void try_damaged(uint64_t len, uint64_t at, uint8_t byte, unsigned number
     buffer_make(&t, TOLD, KG_TOLD);
     ask(of, &t, &o);
     snprintf(what, sizeof what, "%u bytes of the example with %u at %u", (unsigned)len, (unsigned)byte, (unsigned)at);
-    expect(o.signal == 0 && o.answer == number, who, what);
+    expect(o.signal == 0 && o.answer == answer, who, what);
     free_outcome_of(of, &o);
     trial_free(&t);
 }
@@ -387,7 +487,7 @@ static void try_damages(side *of, const char *who)
     try_damaged(24, 23, 2, 12, of, who);
     try_damaged(28, 27, 8, 13, of, who);
     try_damaged(29, 28, 0, 14, of, who);
-    try_damaged(28, 5, 7, 7, of, who);    /* W 7: the last bit of FF is padding */
+    try_damaged(28, 5, 7, at_row(7, 1, 0), of, who); /* W 7: the last bit of FF is padding */
     try_damaged(29, 5, 7, 14, of, who);   /* padding after 14 */
 }
 
@@ -425,8 +525,11 @@ static int reports(const uint8_t *file, uint64_t len, const char *text)
 static void try_report(void)
 {
     static uint8_t zeros[65537];
-    uint8_t large[26 + 3 * 256 * 32];
+    uint8_t large[26 + 3 * 256 * 32], narrow[sizeof example_file];
     expect(reports(example_file, sizeof example_file, example_report), "peer", "the example report");
+    memcpy(narrow, example_file, sizeof narrow);
+    narrow[5] = 7;
+    expect(reports(narrow, sizeof narrow, "refused 7 1 0\n"), "peer", "the report of the example with W 7");
     expect(reports(NULL, 0, "refused 12\n"), "peer", "the report of nothing");
     expect(reports(zeros, 65536, "refused 13\n"), "peer", "the report of 65,536 bytes");
     expect(reports(zeros, 65537, "refused 17\n"), "peer", "the report of 65,537 bytes");
@@ -443,6 +546,7 @@ int try_pieces(void)
     for (int k = 0; k < 2; k++) {
         for (size_t j = 0; j < sizeof pieces / sizeof *pieces; j++) try_piece(&pieces[j], sides[k], names[k]);
         for (size_t j = 0; j < sizeof clean_pieces / sizeof *clean_pieces; j++) try_clean_piece(&clean_pieces[j], sides[k], names[k]);
+        for (size_t j = 0; j < sizeof padded / sizeof *padded; j++) try_padded(&padded[j], sides[k], names[k]);
         try_reaches(sides[k], names[k]);
         try_bounds(sides[k], names[k]);
         try_sizes(sides[k], names[k]);
