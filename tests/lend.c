@@ -269,7 +269,9 @@ static void tell_answer(const struct trial *t, uint64_t answer, char *text, size
 {
     if (t->call == PART || t->call == SUPPORT)
         snprintf(text, cap, "%llu bytes at %llu", (unsigned long long)kg_length(answer), (unsigned long long)kg_offset(answer));
-    else if (t->call == CHECK && kg_number(answer) != 0)
+    else if (kg_place_parts(answer) == 2 && kg_column(answer) == 0)
+        snprintf(text, cap, "%u at %u, %u", kg_number(answer), kg_layer(answer), kg_row(answer));
+    else if (kg_place_parts(answer) != 0)
         snprintf(text, cap, "%u at %u, %u, %u", kg_number(answer), kg_layer(answer), kg_row(answer), kg_column(answer));
     else
         snprintf(text, cap, "%u with value %llu", kg_number(answer), (unsigned long long)kg_value(answer));

@@ -1,6 +1,7 @@
-/* Makes the trial of a seed and a case number: a few of the largest size, then all very small stacks, then all sizes at the edges of
- * words, then whole discs, then small planes and holes that are closed, then random ones, good and spoilt in every way that has a refusal
- * number. No expression throws the dice twice in an order that C leaves open, so a case is the same on every machine.
+/* Makes the trial of a seed and a case number: a few of the largest size, then padding in every row of small stacks, then all very small
+ * stacks, then all sizes at the edges of words, then whole discs, then small planes and holes that are closed, then random ones, good and
+ * spoilt in every way that has a refusal number. No expression throws the dice twice in an order that C leaves open, so a case is the same
+ * on every machine.
  */
 #include "make.h"
 
@@ -240,6 +241,28 @@ static int small_check(struct trial *t, uint64_t *number)
     return 1;
 }
 
+/* The number-th check of four layers of one pixel: all parts and supports, without a ring. */
+static int small_column(struct trial *t, uint64_t *number)
+{
+    enum { ALL = 16 * 16 };
+    if (*number >= ALL) {
+        *number -= ALL;
+        return 0;
+    }
+    t->call = CHECK;
+    t->w = t->h = 1;
+    t->n = 4;
+    t->pitch = t->overhang = 100;
+    buffer_make(t, PART_STACK, stack_bytes_of(t));
+    buffer_make(t, SUPPORT_STACK, stack_bytes_of(t));
+    buffer_make(t, RING_PLANES, ring_count_of(t));
+    for (uint64_t layer = 0; layer < t->n; layer++) {
+        set_pixel(t->lent[PART_STACK].bytes, t->w, t->h, layer, 0, 0, *number >> layer & 1);
+        set_pixel(t->lent[SUPPORT_STACK].bytes, t->w, t->h, layer, 0, 0, *number / 16 >> layer & 1);
+    }
+    return 1;
+}
+
 /* ---- Sizes at the edges of words, part at the edges of the image ---- */
 
 /* Part that lies at an edge or a corner of the lower layer, or here and there, under a full layer. */
@@ -379,7 +402,8 @@ void make_trial(struct trial *t, uint64_t seed, uint64_t number)
         return;
     }
     number -= LARGEST_CASES;
-    if (small_plan(t, &number) || small_check(t, &number) || edge_case(&d, t, &number) || disc_case(&d, t, &number)) return;
+    if (padding_case(&d, t, &number) || small_plan(t, &number) || small_check(t, &number) || small_column(t, &number)) return;
+    if (edge_case(&d, t, &number) || disc_case(&d, t, &number)) return;
     if (small_clean(&d, t, &number) || hole_case(&d, t, &number)) return;
     make_random(&d, t);
 }

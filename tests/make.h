@@ -27,6 +27,10 @@ void draw_gaps(struct dice *d, struct trial *t);                      /* onto a 
 int small_clean(struct dice *d, struct trial *t, uint64_t *number);   /* the number-th, or 0 and so many less */
 int hole_case(struct dice *d, struct trial *t, uint64_t *number);
 
+/* make_padding.c */
+void spoil_padding(struct dice *d, uint8_t *stack, uint64_t w, uint64_t rows); /* of one to four rows, where there is any */
+int padding_case(struct dice *d, struct trial *t, uint64_t *number);
+
 /* make_clean.c, make_check.c, make_file.c: whole trials, whose size and settings are picked */
 void make_clean(struct dice *d, struct trial *t);
 void make_check(struct dice *d, struct trial *t);

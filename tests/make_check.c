@@ -84,6 +84,26 @@ static void take_support(struct dice *d, struct trial *t)
     if (find_spot(d, t, t->n, is_support, &s)) put_support(t, s.layer, s.row, s.column, 0);
 }
 
+/* No part here and none above, and no support to stand on. */
+static int is_open(const struct trial *t, struct spot s)
+{
+    return !part_at(t, s.layer, s.row, s.column) && !part_at(t, s.layer + 1, s.row, s.column) && !is_support(t, s);
+}
+
+static int holds_part(const struct trial *t, struct spot s) { return is_support(t, s) && part_at(t, s.layer + 1, s.row, s.column); }
+
+/* Leaves pixels of part and of support unheld, in any order. */
+static void leave_unheld(struct dice *d, struct trial *t)
+{
+    struct spot s;
+    for (uint64_t times = between(d, 2, 5); times > 0; times--) {
+        int part = chance(d, 2);
+        if (!find_spot(d, t, t->n - 1, part ? holds_part : is_open, &s)) continue;
+        if (part) put_support(t, s.layer, s.row, s.column, 0);
+        else put_support(t, s.layer + 1, s.row, s.column, 1);
+    }
+}
+
 static void overlap(struct dice *d, struct trial *t)
 {
     struct spot s;
@@ -225,9 +245,9 @@ static void enlarge_rings(struct dice *d, struct trial *t)
 void make_check(struct dice *d, struct trial *t)
 {
     typedef void change(struct dice *, struct trial *);
-    static change *const changes[] = {add_held_support, add_held_support, add_any_support, take_support, take_support, overlap,
-                                      change_ring, change_ring, change_ring, add_ring, swap_rings, lean, scribble_rings,
-                                      support_for_ring, plan_for_another_overhang, enlarge_rings, enlarge_rings};
+    static change *const changes[] = {add_held_support, add_held_support, add_any_support, take_support, take_support, leave_unheld,
+                                      leave_unheld, overlap, change_ring, change_ring, change_ring, add_ring, swap_rings, lean,
+                                      scribble_rings, support_for_ring, plan_for_another_overhang, enlarge_rings, enlarge_rings};
     uint64_t times = below(d, 4);
     draw_lent(d, t);
     plan_by_peer(t);

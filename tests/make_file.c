@@ -129,12 +129,10 @@ static void splice_file(struct dice *d, struct trial *t)
 static void spoil_file_padding(struct dice *d, struct trial *t, int stored)
 {
     uint64_t at[5], which = chance(d, 2) ? 2 : between(d, 1, 3);
-    uint64_t bytes = row_bytes_of(t->w);
     count_places(t, stored, at);
     for (uint64_t section = 1; section <= 2; section++) {
-        uint64_t row = chance(d, 2) ? t->n * t->h - 1 : below(d, t->n * t->h);
-        if (t->w % 8 == 0 || !(which & section) || (section == 2 && !stored)) continue;
-        t->lent[JOB_FILE].bytes[at[section] + 4 + row * bytes + bytes - 1] |= (uint8_t)(1 << below(d, 8 - t->w % 8));
+        if (!(which & section) || (section == 2 && !stored)) continue;
+        spoil_padding(d, t->lent[JOB_FILE].bytes + at[section] + 4, t->w, t->n * t->h);
     }
 }
 

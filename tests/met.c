@@ -1,17 +1,18 @@
-/* What was met: how often each call was compared, each refusal number given, and each kind of accepted input tried. */
+/* What was met: how often each call was compared, each refusal number given, each kind of place told, and each kind of accepted input
+ * tried. */
 #include "met.h"
 
 #include <stdio.h>
 #include <string.h>
 
-enum { NUMBERS = 19, LOOKED_AT = 1000000, CLOSED_AT = 40 };
+enum { NUMBERS = 20, LOOKED_AT = 1000000, CLOSED_AT = 40 };
 
 unsigned long compared[CALLS];
 
 static unsigned long met[CALLS][NUMBERS];
 
 /* The refusal numbers that each call can give, 0 for acceptance; 15 cannot be reached. */
-static const char *const can_give[CALLS] = {"0 2 3 ", "0 1 2 3 4 5 6 7 ", "0 1 2 3 4 5 6 7 18 ", "0 1 2 3 4 5 6 7 8 9 10 11 ",
+static const char *const can_give[CALLS] = {"0 2 3 ", "0 1 2 3 4 5 6 7 ", "0 1 2 3 4 5 6 7 18 ", "0 1 2 3 4 5 6 7 8 9 10 11 19 ",
                                             "0 1 2 3 7 8 12 13 14 ", "", "", "0 1 2 3 6 7 8 12 13 14 ", "0 1 2 3 4 5 6 7 8 16 "};
 
 enum kind {
@@ -23,6 +24,7 @@ enum kind {
     CLEAN_EMPTY, CLEAN_ALONE, CLEAN_WIDEST, CLEAN_HIGHEST, CLEAN_LAYERS,
     CHECK_AS_PLANNED, CHECK_MORE, CHECK_LARGER, CHECK_FEWER, CHECK_ONE_LAYER,
     BAD_NO_SHADOW, BAD_NOT_NEAR, BAD_NO_NEIGHBOUR,
+    PART_THEN_SUPPORT, PART_LAYERS_SUPPORT, SUPPORT_THEN_PART, SUPPORT_LAYERS_PART,
     READ_STORED, READ_NONE, READ_ONE_LAYER, READ_SHORT,
     PART_HANDED, PART_EMPTY, SUPPORT_HANDED, SUPPORT_EMPTY,
     COPY_SOME, COPY_NONE,
@@ -47,6 +49,8 @@ static const char *const kind_names[KINDS] = {
     "check: accepted as planned", "check: accepted with more support", "check: accepted with larger rings",
     "check: accepted with support for a ring", "check: accepted with one layer",
     "check: bad ring outside the shadow", "check: bad ring not near", "check: bad ring without a neighbour before it",
+    "check: 11 with support unheld behind it in the layer", "check: 11 with support unheld in a layer above",
+    "check: 19 with part unheld behind it in the layer", "check: 19 with part unheld in a layer above",
     "read: support stored", "read: none stored", "read: one layer stored", "read: fewer told than there are",
     "part: handed back", "part: empty", "support: handed back", "support: empty",
     "copy_rings: some", "copy_rings: none",
@@ -232,7 +236,72 @@ static void note_clean(const struct trial *t, const struct outcome *o)
     if (number == 0) note_cleaned(t, o);
 }
 
+/* ---- Rows with padding ---- */
+
+enum row_kind {
+    ROW_FIRST, ROW_IN_LAYER_0, ROW_0_ABOVE, ROW_WITHIN, ROW_LAST, ROW_255, LAYER_OVER_255, ONE_LAYER, MORE_BEHIND,
+    SUPPORT_BEFORE, SUPPORT_BEHIND,
+    ROW_KINDS
+};
+
+static const char *const row_names[ROW_KINDS] = {
+    "the first row", "a later row of layer 0", "row 0 of a later layer", "a later row of a later layer", "the last row of all", "row 255",
+    "a layer over 255", "one layer", "more behind it", "support bad before it", "support bad behind it",
+};
+
+static unsigned long rows_met[CALLS][2][ROW_KINDS]; /* of 7 and of 8 */
+
+static void note_row(const struct trial *t, uint64_t answer)
+{
+    unsigned number = kg_number(answer);
+    uint64_t layer = kg_layer(answer), row = kg_row(answer), rows = t->n * t->h, at = layer * t->h + row, other;
+    const uint8_t *part = looked_at(t, PART_STACK), *support = looked_at(t, SUPPORT_STACK);
+    unsigned long *to = rows_met[t->call][number - 7];
+    if (part == NULL) return;
+    to[ROW_FIRST] += at == 0;
+    to[ROW_IN_LAYER_0] += layer == 0 && row > 0;
+    to[ROW_0_ABOVE] += layer > 0 && row == 0;
+    to[ROW_WITHIN] += layer > 0 && row > 0;
+    to[ROW_LAST] += at + 1 == rows && rows > 1;
+    to[ROW_255] += row == 255;
+    to[LAYER_OVER_255] += layer > 255;
+    to[ONE_LAYER] += t->n == 1;
+    to[MORE_BEHIND] += first_padding(number == 7 ? part : support, t->w, at + 1, rows) < rows;
+    if (number == 8 || support == NULL) return;
+    other = first_padding(support, t->w, 0, rows);
+    to[SUPPORT_BEFORE] += other < at;
+    to[SUPPORT_BEHIND] += other >= at && other < rows;
+}
+
 /* ---- Kinds of the other calls ---- */
+
+/* What is told of a pixel above layer 0 if it is the first that is unheld: 11 or 19; 0 where it is held. */
+static unsigned unheld_at(const struct trial *t, uint64_t layer, uint64_t row, uint64_t column)
+{
+    const uint8_t *support = t->lent[SUPPORT_STACK].bytes;
+    if (part_at(t, layer - 1, row, column) || pixel(support, t->w, t->h, layer - 1, row, column)) return 0;
+    if (ring_at(&t->lent[RING_PLANES], ((layer - 1) * t->h + row) * t->w + column) != 0) return 0;
+    return part_at(t, layer, row, column) ? 11 : pixel(support, t->w, t->h, layer, row, column) ? 19 : 0;
+}
+
+/* Whether a layer has a pixel of which that number would be told. */
+static int has_unheld(const struct trial *t, uint64_t layer, unsigned number)
+{
+    for (uint64_t row = 0; row < t->h; row++)
+        for (uint64_t column = 0; column < t->w; column++)
+            if (unheld_at(t, layer, row, column) == number) return 1;
+    return 0;
+}
+
+static void note_unheld(const struct trial *t, uint64_t answer)
+{
+    unsigned number = kg_number(answer), other = number == 11 ? 19 : 11;
+    int above = 0;
+    if (t->w * t->h * t->n > LOOKED_AT) return;
+    for (uint64_t layer = kg_layer(answer) + 1; layer < t->n && !above; layer++) above = has_unheld(t, layer, other);
+    meet(number == 11 ? PART_THEN_SUPPORT : SUPPORT_THEN_PART, has_unheld(t, kg_layer(answer), other));
+    meet(number == 11 ? PART_LAYERS_SUPPORT : SUPPORT_LAYERS_PART, above);
+}
 
 static void note_check(const struct trial *t, uint64_t answer)
 {
@@ -249,6 +318,8 @@ static void note_check(const struct trial *t, uint64_t answer)
         meet(BAD_NO_SHADOW, !shadow);
         meet(BAD_NOT_NEAR, shadow && !near);
         meet(BAD_NO_NEIGHBOUR, shadow && near);
+    } else if (kg_number(answer) == 11 || kg_number(answer) == 19) {
+        note_unheld(t, answer);
     }
 }
 
@@ -297,6 +368,7 @@ void note(const struct trial *t, const struct outcome *o)
         return;
     }
     met[t->call][number]++;
+    if (number == 7 || number == 8) note_row(t, o->answer);
     if (t->call == CLEAN) note_clean(t, o);
     if (t->call == CHECK) note_check(t, o->answer);
     if (number != 0) return;
@@ -332,6 +404,29 @@ static int print_numbers(FILE *to)
     return missing;
 }
 
+/* Support is bad too, beside the part's row, only in calls that look at both. */
+static int can_be_row(enum call call, unsigned number, enum row_kind kind)
+{
+    return can_be(call, number) && (kind < SUPPORT_BEFORE || (number == 7 && can_be(call, 8)));
+}
+
+static int print_rows(FILE *to)
+{
+    int missing = 0;
+    for (int call = 0; call < CALLS; call++)
+        for (unsigned number = 7; number <= 8; number++) {
+            if (!can_be((enum call)call, number)) continue;
+            fprintf(to, "met by %s, %u:", call_names[call], number);
+            for (int kind = 0; kind < ROW_KINDS; kind++) {
+                if (!can_be_row((enum call)call, number, (enum row_kind)kind)) continue;
+                fprintf(to, "%s %s x %lu", kind == 0 ? "" : ",", row_names[kind], rows_met[call][number - 7][kind]);
+                missing += rows_met[call][number - 7][kind] == 0;
+            }
+            fprintf(to, "\n");
+        }
+    return missing;
+}
+
 static int print_kinds(FILE *to)
 {
     int missing = 0;
@@ -346,5 +441,6 @@ static int print_kinds(FILE *to)
 int print_met(FILE *to)
 {
     int missing = print_numbers(to);
+    missing += print_rows(to);
     return missing + print_kinds(to);
 }

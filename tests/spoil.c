@@ -87,16 +87,9 @@ void spoil_length(struct dice *d, struct trial *t, enum lent which)
     if (b->held > held) scribble(d, b->bytes + held, b->held - held);
 }
 
-static void spoil_padding(struct dice *d, struct trial *t, enum lent which)
+static void spoil_stack(struct dice *d, struct trial *t, enum lent which)
 {
-    uint64_t rows = t->n * t->h, bytes = row_bytes_of(t->w), row;
-    if (t->w % 8 == 0 || t->lent[which].len != stack_bytes_of(t)) return;
-    switch (below(d, 3)) {
-    case 0: row = rows - 1; break;
-    case 1: row = 0; break;
-    default: row = below(d, rows); break;
-    }
-    t->lent[which].bytes[row * bytes + bytes - 1] |= (uint8_t)(1 << below(d, 8 - t->w % 8));
+    if (t->lent[which].len == stack_bytes_of(t)) spoil_padding(d, t->lent[which].bytes, t->w, t->n * t->h);
 }
 
 static uint64_t hostile_gap(struct dice *d, uint64_t was)
@@ -149,8 +142,8 @@ void spoil(struct dice *d, struct trial *t)
             break;
         default:
             if (!size_in_range(t)) break;
-            if (chance(d, 2)) spoil_padding(d, t, PART_STACK);
-            if (chance(d, 2)) spoil_padding(d, t, SUPPORT_STACK);
+            if (chance(d, 2)) spoil_stack(d, t, PART_STACK);
+            if (chance(d, 2)) spoil_stack(d, t, SUPPORT_STACK);
         }
     }
 }

@@ -119,6 +119,30 @@ int size_in_range(const struct trial *t)
     return t->w >= 1 && t->w <= 256 && t->h >= 1 && t->h <= 256 && t->n >= 1 && t->n <= 512;
 }
 
+static int tells_size_of(const uint8_t *file, const struct trial *t)
+{
+    return file[4] * 256u + file[5] == t->w && file[6] * 256u + file[7] == t->h && file[8] * 256u + file[9] == t->n;
+}
+
+const uint8_t *looked_at(const struct trial *t, enum lent which)
+{
+    const struct buffer *file = &t->lent[JOB_FILE];
+    uint64_t bytes = stack_bytes_of(t);
+    if (writes(t->call, which)) return NULL;
+    if (!uses(t->call, JOB_FILE)) return t->lent[which].len == bytes ? t->lent[which].bytes : NULL;
+    if (!tells_size_of(file->bytes, t)) return NULL;
+    if (which == PART_STACK) return file->bytes + 18;
+    return file->len > 26 + bytes ? file->bytes + 22 + bytes : NULL;
+}
+
+uint64_t first_padding(const uint8_t *stack, uint64_t w, uint64_t from, uint64_t rows)
+{
+    uint64_t row = from;
+    if (w % 8 == 0) return rows;
+    while (row < rows && (stack[(row + 1) * row_bytes_of(w) - 1] & 0xFF >> w % 8) == 0) row++;
+    return row;
+}
+
 int pixel(const uint8_t *stack, uint64_t w, uint64_t h, uint64_t layer, uint64_t row, uint64_t column)
 {
     return stack[(layer * h + row) * row_bytes_of(w) + column / 8] >> (7 - column % 8) & 1;

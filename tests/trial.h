@@ -1,9 +1,9 @@
 /* What the files of the driver share: a trial is one call with its numbers and the buffers that it is lent.
  *
  *   draw.c    draws parts
- *   make.c    makes the trial of a seed and a case number, with spoil.c, make_clean.c, make_check.c and make_file.c
+ *   make.c    makes the trial of a seed and a case number, with spoil.c, make_padding.c, make_clean.c, make_check.c and make_file.c
  *   lend.c    lends the buffers of a trial to the library and to the peer, and watches the memory around them
- *   facts.c   asks what must hold between calls
+ *   facts.c   asks what must hold between calls, and of what a refusal carries
  *   shrink.c  makes a failing trial smaller
  *   pieces.c  the bench pieces and limits, with their answers
  *   met.c     counts what was met
@@ -69,6 +69,11 @@ uint64_t ring_count_of(const struct trial *t);
 uint64_t job_bytes_of(const struct trial *t, int stored);
 int size_in_range(const struct trial *t);
 
+/* The part or the support that a call looks at, lent or in its file; null where there is none. A file must be a job, right but for padding:
+ * null too where its size is not the trial's. */
+const uint8_t *looked_at(const struct trial *t, enum lent which);
+uint64_t first_padding(const uint8_t *stack, uint64_t w, uint64_t from, uint64_t rows); /* the first such row from one on, or rows */
+
 int pixel(const uint8_t *stack, uint64_t w, uint64_t h, uint64_t layer, uint64_t row, uint64_t column);
 void set_pixel(uint8_t *stack, uint64_t w, uint64_t h, uint64_t layer, uint64_t row, uint64_t column, int on);
 
@@ -104,7 +109,7 @@ void call_library(const struct trial *t, struct outcome *o);
 void call_peer(const struct trial *t, struct outcome *o);
 void outcome_free(struct outcome *of_peer);
 
-/* What should hold between an outcome that is right and the library's other calls, and does not; or null. */
+/* What should hold of an outcome that is right, with what was lent or with the library's other calls, and does not; or null. */
 const char *broken_fact(const struct trial *t, const struct outcome *right);
 
 /* Whether library and peer differ or a fact is broken, and how. The peer's answer and buffers stay in `peer`, for outcome_free. */
