@@ -122,7 +122,7 @@ enum status command_report(const struct arguments *arguments)
     if (status == DONE)
         print_report(&job);
     if (status == REFUSED) {
-        printf("refused %u\n", kg_number(job.answer)); /* the report program's own line */
+        print_reported(job.answer);
         complain(&job);
     }
     job_free(&job);

@@ -116,8 +116,11 @@ bool job_pixel(const struct job *job, const uint8_t *plane, uint64_t row, uint64
 
 /* refusals.c */
 
-/* A refusal as an answer: three lines on standard output. */
+/* A refusal as an answer, three lines on standard output: number and place, meaning, advice. */
 void print_refusal(kg_answer answer);
+
+/* A refusal as the report program prints it: one line on standard output, all digits. */
+void print_reported(kg_answer answer);
 
 /* A refusal as an error: one line on standard error. */
 void complain(const struct job *job);

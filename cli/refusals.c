@@ -13,29 +13,36 @@ static const struct words *words_of(unsigned number)
     return &unknown;
 }
 
-static bool has_place(unsigned number)
-{
-    return number >= 9 && number <= 11;
-}
+/* What stands before each part of a place: for people, and on the report program's own line. */
+static const char *const in_words[] = {" at layer ", ", row ", ", column "};
+static const char *const in_digits[] = {" ", " ", " "};
 
-static void print_number(FILE *to, kg_answer answer)
+/* The number, and as much of a place as it has. */
+static void print_number(FILE *to, kg_answer answer, const char *const before[])
 {
+    const unsigned place[] = {kg_layer(answer), kg_row(answer), kg_column(answer)};
     fprintf(to, "refused %u", kg_number(answer));
-    if (has_place(kg_number(answer)))
-        fprintf(to, " at layer %u, row %u, column %u", kg_layer(answer), kg_row(answer), kg_column(answer));
+    for (unsigned i = 0; i < kg_place_parts(answer); i++)
+        fprintf(to, "%s%u", before[i], place[i]);
 }
 
 void print_refusal(kg_answer answer)
 {
     const struct words *words = words_of(kg_number(answer));
-    print_number(stdout, answer);
+    print_number(stdout, answer, in_words);
     printf("\n%s\n%s\n", words->meaning, words->advice);
+}
+
+void print_reported(kg_answer answer)
+{
+    print_number(stdout, answer, in_digits);
+    putchar('\n');
 }
 
 void complain(const struct job *job)
 {
     const struct words *words = words_of(kg_number(job->answer));
     fprintf(stderr, "kg: %s: ", job->name);
-    print_number(stderr, job->answer);
+    print_number(stderr, job->answer, in_words);
     fprintf(stderr, ": %s %s\n", words->meaning, words->advice);
 }
