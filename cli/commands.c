@@ -48,25 +48,12 @@ enum status command_clean(const struct arguments *arguments)
     return store(&job, arguments->operand[1], status);
 }
 
-/* The library's verdict on what is stored. Nothing stored is no verdict, so it gets neither `accepted` nor a number. */
-static enum status judge_stored(struct job *job)
-{
-    if (!job->stored)
-        return fail("%s: no support is stored, so there is nothing to judge (kg plan stores some)", job->name);
-    enum status status = job_take_stored(job);
-    if (status != DONE)
-        return status;
-    job->answer = kg_check(job->w, job->h, job->n, job->pitch, job->overhang, job->part, job->stack_length,
-                           job->support, job->stack_length, job->rings, job->ring_count);
-    return kg_number(job->answer) == 0 ? DONE : REFUSED;
-}
-
 enum status command_check(const struct arguments *arguments)
 {
     struct job job;
     enum status status = job_read(&job, arguments->operand[0]);
     if (status == DONE)
-        status = judge_stored(&job);
+        status = job_judge(&job);
     if (status == DONE)
         puts("accepted");
     if (status == REFUSED)

@@ -26,6 +26,7 @@ const char help_kg[] =
     "  kg check JOB                  judge the support that is stored\n"
     "  kg report JOB                 count part, support and excused pixels by layer\n"
     "  kg show JOB LAYER [--rings]   one layer as a picture, or its ring numbers\n"
+    "  kg show JOB --refused         the layer where something is refused, pointed at\n"
     "  kg COMMAND --help             more on a command, with examples\n"
     "  kg --version                  version, and which build of the library\n"
     "\n"
@@ -39,6 +40,7 @@ const char help_kg[] =
     "  kg check planned.kg\n"
     "  kg show planned.kg 3\n"
     "  kg clean gap.kg cleaned.kg --gap 2\n"
+    "  kg show painted.kg --refused\n"
     STATUSES("done; for check: the stored support is accepted");
 
 const char help_plan[] =
@@ -101,13 +103,13 @@ const char help_check[] =
     "(support inside the part) the layer is that of the pixel; for 10 (a wrong ring),\n"
     "11 (a pixel of the part that hangs) and 19 (one of the support) it is the upper\n"
     "layer of the pair. For 7 and 8 (bits past the width) the place is a row: layer\n"
-    "and row.\n"
+    "and row. kg show JOB --refused points at it.\n"
     "\n"
     "A job that holds no support has nothing to judge: this is said on standard error,\n"
     "with status 2. A job that is planned has support stored, be it empty.\n"
     "\n"
     "examples\n"
-    "  kg check painted.kg\n"
+    "  kg check painted.kg || kg show painted.kg --refused\n"
     "  kg plan lid.kg - | kg check -\n"
     STATUSES("accepted");
 
@@ -137,6 +139,7 @@ const char help_report[] =
 
 const char help_show[] =
     "usage: kg show JOB LAYER [--rings]\n"
+    "       kg show JOB --refused [--rings]\n"
     "\n"
     "Prints layer LAYER of JOB, counted from 0, as a picture, one character for each\n"
     "pixel, after a line that says what is shown and a line with the characters:\n"
@@ -155,9 +158,20 @@ const char help_show[] =
     "support here is shown as that. In a planned or cleaned job the picture has as\n"
     "many #, + and o as the line of this layer in kg report.\n"
     "\n"
-    "  --rings  in place of the picture the ring numbers of layers LAYER and LAYER+1\n"
-    "           as a table: 1 next to part that stands on part, 2 one step further\n"
-    "           out, and so on; 0 is no ring. The top layer has none.\n"
+    "  --rings    in place of the picture the ring numbers of layers LAYER and LAYER+1\n"
+    "             as a table: 1 next to part that stands on part, 2 one step further\n"
+    "             out, and so on; 0 is no ring. The top layer has none.\n"
+    "  --refused  in place of LAYER: judges JOB as kg check does and shows the layer\n"
+    "             of the place that is told, with v over the column and < behind the\n"
+    "             row. A line before all others says what is refused. Where that is\n"
+    "             bits past the width (7 and 8), they stand behind | in each row that\n"
+    "             has some, ! for a bit that is set. With --rings the table of that\n"
+    "             layer and the one below it, pointed at in the same way.\n"
+    "\n"
+    "What hangs (11 and 19) is in the layer that --refused shows; what it lacks is in\n"
+    "the layer below. A job that is accepted is said to be. One that holds no support\n"
+    "has nothing to judge: status 2. A refusal without a place has no layer to show\n"
+    "and is said on standard error: status 1.\n"
     "\n"
     "Support and rings are shown as they are stored, right or wrong (kg check judges\n"
     "them); where none are stored they are planned afresh, and the first line says\n"
@@ -167,4 +181,5 @@ const char help_show[] =
     "  kg show lid.kg 3\n"
     "  kg show lid.kg 3 --rings | less -S\n"
     "  kg clean gap.kg - --gap 2 | kg show - 0\n"
-    STATUSES("shown");
+    "  kg show painted.kg --refused\n"
+    STATUSES("shown; for --refused: a place is shown, or the job is accepted");

@@ -1,4 +1,4 @@
-/* kg: a job in memory: read, planned, cleaned, stored.
+/* kg: a job in memory: read, judged, planned, cleaned, stored.
  *
  * Sizes are computed only once kg_read has accepted the file. Then the largest stack has 4,194,304 bytes, the largest ring planes
  * 33,488,896 numbers and the longest job 75,366,426 bytes, so no sum or product here comes near 64 bits. */
@@ -18,11 +18,13 @@ enum status job_read(struct job *job, const char *name)
     memset(job, 0, sizeof *job);
     job->name = shown_name(name);
     enum status status = read_file(name, &job->file);
-    if (status != DONE)
-        return status;
+    return status == DONE ? job_take_file(job) : status;
+}
 
+enum status job_take_file(struct job *job)
+{
     uint64_t told[KG_TOLD] = {0};
-    status = answered(job, kg_read(job->file.data, job->file.length, told, KG_TOLD));
+    enum status status = answered(job, kg_read(job->file.data, job->file.length, told, KG_TOLD));
     if (status != DONE)
         return status;
     job->w = told[KG_WIDTH];
@@ -47,6 +49,17 @@ enum status job_take_stored(struct job *job)
     if (job->rings == NULL)
         return UNUSABLE;
     return answered(job, kg_copy_rings(job->file.data, job->file.length, job->rings, job->ring_count));
+}
+
+enum status job_judge(struct job *job)
+{
+    if (!job->stored)
+        return fail("%s: no support is stored, so there is nothing to judge (kg plan stores some)", job->name);
+    enum status status = job_take_stored(job);
+    if (status != DONE)
+        return status;
+    return answered(job, kg_check(job->w, job->h, job->n, job->pitch, job->overhang, job->part, job->stack_length,
+                                  job->support, job->stack_length, job->rings, job->ring_count));
 }
 
 /* Plans into job->planned and the rings that are lent. */
@@ -108,6 +121,7 @@ enum status job_save(struct job *job, const char *name)
 void job_free(struct job *job)
 {
     free(job->file.data);
+    free(job->original.data);
     free(job->planned);
     free(job->cleaned);
     free(job->rings);
@@ -131,4 +145,12 @@ const uint16_t *job_rings(const struct job *job, uint64_t layer)
 bool job_pixel(const struct job *job, const uint8_t *plane, uint64_t row, uint64_t column)
 {
     return plane[row * row_bytes(job) + column / 8] >> (7 - column % 8) & 1;
+}
+
+bool job_padded(const struct job *job, const uint8_t *plane, uint64_t row)
+{
+    for (uint64_t column = job->w; column % 8 != 0; column++)
+        if (job_pixel(job, plane, row, column))
+            return true;
+    return false;
 }

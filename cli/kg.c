@@ -17,7 +17,7 @@ struct command {
     const char *name;
     const char *usage;
     int operands;
-    bool has_rings; /* takes --rings */
+    bool has_views; /* takes --rings, and --refused in place of its last operand */
     bool has_gap;   /* takes --gap with a word behind it */
     const char *help;
     enum status (*run)(const struct arguments *arguments);
@@ -28,7 +28,7 @@ static const struct command commands[] = {
     {"clean", "kg clean IN OUT --gap C", 2, false, true, help_clean, command_clean},
     {"check", "kg check JOB", 1, false, false, help_check, command_check},
     {"report", "kg report JOB", 1, false, false, help_report, command_report},
-    {"show", "kg show JOB LAYER [--rings]", 2, true, false, help_show, command_show},
+    {"show", "kg show JOB LAYER [--rings] or kg show JOB --refused [--rings]", 2, true, false, help_show, command_show},
 };
 
 static bool is_help(const char *word)
@@ -61,8 +61,10 @@ static enum status take_option(const struct command *command, const char *word, 
 {
     if (is_help(word))
         arguments->help = true;
-    else if (command->has_rings && strcmp(word, "--rings") == 0)
+    else if (command->has_views && strcmp(word, "--rings") == 0)
         arguments->rings = true;
+    else if (command->has_views && strcmp(word, "--refused") == 0)
+        arguments->refused = true;
     else
         return fail("unknown option '%s' (see kg %s --help)", word, command->name);
     return DONE;
@@ -101,9 +103,20 @@ static enum status take_words(const struct command *command, char *words[], stru
     return status;
 }
 
+/* Whether there are as many operands as wanted: one less with --refused, which finds the layer itself. */
+static enum status count_operands(const struct command *command, const struct arguments *arguments)
+{
+    int wanted = command->operands - (arguments->refused ? 1 : 0);
+    if (arguments->count < wanted)
+        return fail("too few words; usage: %s", command->usage);
+    if (arguments->count > wanted)
+        return fail("--refused finds the layer itself: leave '%s' out; usage: %s", arguments->operand[wanted], command->usage);
+    return DONE;
+}
+
 static enum status run_command(const struct command *command, char *words[])
 {
-    struct arguments arguments = {{NULL, NULL}, 0, false, false, NULL};
+    struct arguments arguments = {{NULL, NULL}, 0, false, false, false, NULL};
     enum status status = take_words(command, words, &arguments);
     if (status != DONE)
         return status;
@@ -111,9 +124,8 @@ static enum status run_command(const struct command *command, char *words[])
         fputs(command->help, stdout);
         return DONE;
     }
-    if (arguments.count < command->operands)
-        return fail("too few words; usage: %s", command->usage);
-    return command->run(&arguments);
+    status = count_operands(command, &arguments);
+    return status == DONE ? command->run(&arguments) : status;
 }
 
 static enum status run(int count, char *words[])

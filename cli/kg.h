@@ -3,8 +3,9 @@
  * kg.c       arguments and main
  * help.c     the texts of --help
  * commands.c plan, clean, check and report
- * show.c     show
- * job.c      a job in memory: read, planned, cleaned, stored
+ * show.c     show: pictures and tables of rings
+ * point.c    show --refused: finds what they point at
+ * job.c      a job in memory: read, judged, planned, cleaned, stored
  * refusals.c refusal numbers in words
  * files.c    files read whole and saved safely, memory, error messages
  */
@@ -27,6 +28,7 @@ struct arguments {
     int count;
     bool help;
     bool rings;
+    bool refused;    /* and so there is no LAYER */
     const char *gap; /* the word behind --gap; null where there is none */
 };
 
@@ -73,7 +75,8 @@ enum status save_file(const char *name, const struct bytes *content);
 struct job {
     const char *name;
     struct bytes file;
-    kg_answer answer; /* the library's last answer */
+    struct bytes original; /* the file as it was read, where a copy with its padding cleared has taken its place; else empty */
+    kg_answer answer;      /* the library's last answer */
 
     uint64_t w, h, n;
     uint32_t pitch, overhang;
@@ -93,8 +96,14 @@ struct job {
 /* Reads a job's settings and part. Whatever this answers, job_free is to be called at the end. */
 enum status job_read(struct job *job, const char *name);
 
+/* The same of job->file, where that is in memory. */
+enum status job_take_file(struct job *job);
+
 /* Support and rings as the file holds them; only where job->stored. */
 enum status job_take_stored(struct job *job);
+
+/* The library's verdict on what is stored, which is taken. Nothing stored is no verdict: UNUSABLE. */
+enum status job_judge(struct job *job);
 
 /* Support and rings planned afresh. */
 enum status job_plan(struct job *job);
@@ -114,10 +123,36 @@ const uint8_t *job_plane(const struct job *job, const uint8_t *stack, uint64_t l
 const uint16_t *job_rings(const struct job *job, uint64_t layer);
 bool job_pixel(const struct job *job, const uint8_t *plane, uint64_t row, uint64_t column);
 
+/* Whether a row has padding set: for job_pixel those are columns too, from job->w up to a whole byte. */
+bool job_padded(const struct job *job, const uint8_t *plane, uint64_t row);
+
+/* show.c */
+
+/* What is drawn of a job, and what is pointed at. */
+struct view {
+    uint64_t layer;        /* a picture of this layer, or the rings of this layer and the next */
+    bool rings;
+    kg_answer told;        /* the refusal whose place is pointed at; 0 for none */
+    const uint8_t *padded; /* the stack whose padding is told, as it was read; null for none */
+};
+
+/* Support and rings to draw: what is stored, for a picture with the plan beside it; or the plan itself where nothing is stored. */
+enum status take_support(struct job *job, bool picture);
+
+void draw(const struct job *job, const struct view *view);
+
+/* point.c */
+
+/* kg show JOB --refused. */
+enum status show_refused(const struct arguments *arguments);
+
 /* refusals.c */
 
 /* A refusal as an answer, three lines on standard output: number and place, meaning, advice. */
 void print_refusal(kg_answer answer);
+
+/* A refusal as the head of a picture: one line on standard output, without the advice. */
+void print_meaning(kg_answer answer);
 
 /* A refusal as the report program prints it: one line on standard output, all digits. */
 void print_reported(kg_answer answer);

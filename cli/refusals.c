@@ -33,6 +33,12 @@ void print_refusal(kg_answer answer)
     printf("\n%s\n%s\n", words->meaning, words->advice);
 }
 
+void print_meaning(kg_answer answer)
+{
+    print_number(stdout, answer, in_words);
+    printf(": %s\n", words_of(kg_number(answer))->meaning);
+}
+
 void print_reported(kg_answer answer)
 {
     print_number(stdout, answer, in_digits);
