@@ -17,8 +17,9 @@ const bytes = new Uint8Array(kg.memory.buffer);
 bytes.set([0b11100000, 0b11111111], part);
 
 const answer = kg.kg_plan(...size, ...settings, part, BigInt(planned), support, BigInt(planned), rings, BigInt(ringCount));
-const refusal = Number(answer & 0xFFFFn);
-if (refusal !== 0) throw new Error(`refused ${refusal}: see docs/REFUSALS.md`);
+const bits = (from) => Number(answer >> from & 0xFFFFn), refusal = bits(0n); // as kg_number, kg_layer and kg_row of the header
+const place = refusal === 7 ? ` at layer ${bits(16n)}, row ${bits(32n)}` : ''; // planning's one refusal with a place
+if (refusal !== 0) throw new Error(`refused ${refusal}${place}: see docs/REFUSALS.md`);
 const hex = Array.from(bytes.subarray(support, support + planned), (byte) => byte.toString(16).padStart(2, '0'));
 console.log(`support ${hex.join(' ')}`);
 console.log(`rings ${new Uint16Array(kg.memory.buffer, rings, ringCount).join(' ')}`);

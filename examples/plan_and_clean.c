@@ -30,6 +30,17 @@ static void print_row(const char *name, const uint8_t *row)
     putchar('\n');
 }
 
+/* The number, and as much of a place as it has: a row has two parts, a pixel three. */
+static void print_refusal(FILE *to, kg_answer answer)
+{
+    fprintf(to, "refused %u", kg_number(answer));
+    if (kg_place_parts(answer) >= 2)
+        fprintf(to, " at layer %u, row %u", kg_layer(answer), kg_row(answer));
+    if (kg_place_parts(answer) == 3)
+        fprintf(to, ", column %u", kg_column(answer));
+    fputc('\n', to);
+}
+
 int main(void)
 {
     uint8_t support[STACK], cleaned[STACK];
@@ -38,7 +49,7 @@ int main(void)
     /* One call plans and cleans: support and rings are those of kg_plan. On a refusal all three are as they were. */
     kg_answer made = kg_clean(WIDTH, HEIGHT, LAYERS, PITCH, OVERHANG, GAP, part, STACK, support, STACK, rings, RINGS, cleaned, STACK);
     if (kg_number(made) != 0) {
-        fprintf(stderr, "refused %u\n", kg_number(made));
+        print_refusal(stderr, made);
         return 1;
     }
     print_row("planned support", support);
@@ -46,6 +57,10 @@ int main(void)
 
     /* The cleaned support is judged with the planner's rings. */
     kg_answer verdict = kg_check(WIDTH, HEIGHT, LAYERS, PITCH, OVERHANG, part, STACK, cleaned, STACK, rings, RINGS);
-    printf("cleaned: %s\n", kg_number(verdict) == 0 ? "accepted" : "refused");
+    printf("cleaned: ");
+    if (kg_number(verdict) == 0)
+        puts("accepted");
+    else
+        print_refusal(stdout, verdict);
     return 0;
 }
