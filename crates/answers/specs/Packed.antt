@@ -11,12 +11,16 @@ use Rattle.rules.specs.declared.Micrometres.{Micrometres}
 use Rattle.rules.specs.declared.Pixels.{Pixels}
 use Rattle.rules.specs.declared.Settings.{Settings}
 use Rattle.rules.specs.declared.Layout.{Layout}
+use Rattle.rules.specs.declared.Refusal.{Refusal}
+use Rattle.rules.specs.declared.Refusal.the-variants.{Number, InRow, AtPixel}
 use Rattle.rules.specs.declared.Reached.{Reached}
 use Rattle.rules.specs.declared.Reached.the-variants.{By, Refused as NotReached}
 use Rattle.rules.specs.declared.Planned.{Planned}
 use Rattle.rules.specs.declared.Planned.the-variants.{Done, Refused as NotPlanned}
 use Rattle.rules.specs.declared.Judged.{Judged}
-use Rattle.rules.specs.declared.Judged.the-variants.{Accepted, Refused as NotJudged, RefusedAt}
+use Rattle.rules.specs.declared.Judged.the-variants.{Accepted, Refused as NotJudged}
+use Rattle.rules.specs.declared.ReadJob.{ReadJob}
+use Rattle.rules.specs.declared.ReadJob.the-variants.{Job as IsJob, Refused as NotRead}
 use Rattle.rules.specs.declared.CopiedRings.{CopiedRings}
 use Rattle.rules.specs.declared.CopiedRings.the-variants.{Copied, Refused as NotCopied}
 use Rattle.rules.specs.declared.WrittenJob.{WrittenJob}
@@ -39,27 +43,36 @@ jobOf s part support rings = record { settings = s; part = part; support = suppo
 abbrev pub above : ℕ → ℕ
 above v = v % 281474976710656 * 65536
 
+-- a refusal: the number, and above it layer, row and column in 16 bits each, as many as its place has
+abbrev pub packRefusal : Refusal → ℕ
+packRefusal (Number k) = k
+packRefusal (InRow k at) = k + at .layer % 65536 * 65536 + at .row % 65536 * 4294967296
+packRefusal (AtPixel k at) = k + at .layer % 65536 * 65536 + at .row % 65536 * 4294967296 + at .column % 65536 * 281474976710656
+
 abbrev pub packReached : Reached → ℕ
 packReached (By r) = above (r .0)
 packReached (NotReached k) = k
 
 abbrev pub packPlanned : Planned → ℕ
 packPlanned Done = 0
-packPlanned (NotPlanned k) = k
+packPlanned (NotPlanned r) = packRefusal r
 
--- layer, row and column in 16 bits each
 abbrev pub packJudged : Judged → ℕ
 packJudged Accepted = 0
-packJudged (NotJudged k) = k
-packJudged (RefusedAt k at) = k + at .layer % 65536 * 65536 + at .row % 65536 * 4294967296 + at .column % 65536 * 281474976710656
+packJudged (NotJudged r) = packRefusal r
 
 abbrev pub packCopied : CopiedRings → ℕ
 packCopied Copied = 0
-packCopied (NotCopied k) = k
+packCopied (NotCopied r) = packRefusal r
 
 abbrev pub packWritten : WrittenJob → ℕ
 packWritten (Length n) = above n
-packWritten (NotWritten k) = k
+packWritten (NotWritten r) = packRefusal r
+
+-- of reading only a refusal is packed: what it tells goes to the room that is lent
+abbrev pub packRead : ReadJob → ℕ
+packRead (IsJob l) = 0
+packRead (NotRead r) = packRefusal r
 
 -- what reading tells, as numbers
 abbrev pub told : Layout → List ℕ

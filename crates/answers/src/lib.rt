@@ -5,6 +5,7 @@ use rules::Layout;
 use rules::Micrometres;
 use rules::Planned;
 use rules::Reached;
+use rules::Refusal;
 use rules::Settings;
 use rules::WrittenJob;
 ghost use mathlib.Core.Path.{_≡_};
@@ -14,7 +15,7 @@ ghost use Prim.Native.Nat.{_+_, _-_, _*_, _%_, _<_, _≤_};
 ghost use lib.ListN.{length, take, drop};
 ghost use Rattle.rules.specs.Tools.{bit};
 ghost use Rattle.answers.specs.Packed as packed;
-ghost use Rattle.answers.specs.Packed.{settingsOf, packReached, packPlanned, packJudged, packCopied, packWritten, told};
+ghost use Rattle.answers.specs.Packed.{settingsOf, packRefusal, packReached, packPlanned, packJudged, packCopied, packWritten, told};
 
 fn above(v: usize) -> usize
     ensures { λ r. ⌜ r ≡ packed.above v ⌝ }
@@ -31,22 +32,16 @@ pub fn pack_reached(r: Reached) -> usize
     }
 }
 
-pub fn pack_planned(p: Planned) -> usize
-    ensures { λ r. ⌜ r ≡ packPlanned p ⌝ }
+// A place of two parts leaves the bits of the column 0.
+pub fn pack_refusal(r: Refusal) -> usize
+    ensures { λ k. ⌜ k ≡ packRefusal r ⌝ }
 {
-    match p {
-        Planned::Done => 0,
-        Planned::Refused(k) => numbers::wide(k),
-    }
-}
-
-pub fn pack_judged(j: Judged) -> usize
-    ensures { λ r. ⌜ r ≡ packJudged j ⌝ }
-{
-    match j {
-        Judged::Accepted => 0,
-        Judged::Refused(k) => numbers::wide(k),
-        Judged::RefusedAt(k, at) => {
+    match r {
+        Refusal::Number(k) => numbers::wide(k),
+        Refusal::InRow(k, at) => {
+            numbers::wide(k) + at.layer % 65536 * 65536 + at.row % 65536 * 4294967296
+        }
+        Refusal::AtPixel(k, at) => {
             numbers::wide(k)
                 + at.layer % 65536 * 65536
                 + at.row % 65536 * 4294967296
@@ -55,12 +50,30 @@ pub fn pack_judged(j: Judged) -> usize
     }
 }
 
+pub fn pack_planned(p: Planned) -> usize
+    ensures { λ r. ⌜ r ≡ packPlanned p ⌝ }
+{
+    match p {
+        Planned::Done => 0,
+        Planned::Refused(r) => pack_refusal(r),
+    }
+}
+
+pub fn pack_judged(j: Judged) -> usize
+    ensures { λ r. ⌜ r ≡ packJudged j ⌝ }
+{
+    match j {
+        Judged::Accepted => 0,
+        Judged::Refused(r) => pack_refusal(r),
+    }
+}
+
 pub fn pack_copied(c: CopiedRings) -> usize
     ensures { λ r. ⌜ r ≡ packCopied c ⌝ }
 {
     match c {
         CopiedRings::Copied => 0,
-        CopiedRings::Refused(k) => numbers::wide(k),
+        CopiedRings::Refused(r) => pack_refusal(r),
     }
 }
 
@@ -69,7 +82,7 @@ pub fn pack_written(w: WrittenJob) -> usize
 {
     match w {
         WrittenJob::Length(n) => above(n),
-        WrittenJob::Refused(k) => numbers::wide(k),
+        WrittenJob::Refused(r) => pack_refusal(r),
     }
 }
 

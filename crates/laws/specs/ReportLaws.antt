@@ -222,7 +222,7 @@ module _ (f : List ℕ) where
   report-exactly k = number-exactly (λ l. l) (0 ∷ []) saysRefusal (λ j. refl) (reportCases f) (settingsIn f) (partIn f) (supportIn f) k (λ e. omega arith)
 
   -- 7 and 8 of the program are those of reading
-  reported-as-read : (k : ℕ) → (17 ≡ suc k → ⊥) → refusal (reportCases f) ≡ suc k → readRefusal f ≡ suc k
+  pub reported-as-read : (k : ℕ) → (17 ≡ suc k → ⊥) → refusal (reportCases f) ≡ suc k → readRefusal f ≡ suc k
   unfolding reportCases readRefusal
   reported-as-read k n e =
       let rings : List Case = (17 when ltb 32768 (ringsIn (settingsIn f))) ∷ [] in

@@ -1,12 +1,12 @@
 -- The lines of the report as runs of bytes, one piece after another; the first line and that of a layer from their four numbers.
 use mathlib.Core.Path.{_≡_, sym, ap, subst, _∙_}
-use mathlib.Core.List.{List, [], _∷_, _++_, append-assoc}
+use mathlib.Core.List.{List, [], _∷_, _++_, append-nil, append-assoc}
 use Prim.Native.Nat.{ℕ, _+_, _<_, _≤_}
 use native.Mathlib.Omega.{arith}
 use lib.ListN.{length, set, length-append}
 use Rattle.rules.specs.Jobs.{over}
 use Rattle.rules.specs.Reach.{reachOf}
-use Rattle.rules.specs.Report.{decimal, spaced, newline, refusedLine, jobLine}
+use Rattle.rules.specs.Report.{decimal, spaced, newline, allSpaced, refusedLine, jobLine}
 use Rattle.rules.specs.declared.Settings.{Settings}
 use Rattle.rules.specs.declared.Pixels.{Pixels}
 use Rattle.laws.specs.Runs.{stores1, length-over, after}
@@ -74,6 +74,21 @@ module _ (s : Settings) (p : Pixels) (e : p ≡ reachOf (s .pitch) (s .overhang)
   unfolding jobOf
   job-long = rw (← job-is) (simp length-append (omega arith))
 
-pub refused-long : (k : ℕ) → length (refusedLine k) ≡ 8 + length (spaced k)
+pub refused-long : (said : List ℕ) → length (refusedLine said) ≡ 8 + length (allSpaced said)
 unfolding refusedLine
-refused-long k = simp length-append (omega arith)
+refused-long said = simp length-append (omega arith)
+
+-- the numbers of a refusal, one piece after another
+module _ {out : List ℕ} {at : ℕ} {l : List ℕ} {r : ℕ} where
+  pub one-spaced : (k : ℕ) → Wrote out at l r (spaced k) → Wrote out at l r (allSpaced (k ∷ []))
+  unfolding allSpaced
+  one-spaced k w = subst (Wrote out at l r) (sym (append-nil (spaced k))) w
+
+  pub three-spaced : (k i j : ℕ) → Wrote out at l r (spaced k ++ spaced i ++ spaced j) → Wrote out at l r (allSpaced (k ∷ i ∷ j ∷ []))
+  unfolding allSpaced
+  three-spaced k i j w = subst (Wrote out at l r) (rw (append-nil (spaced j)) (append-assoc (spaced k) (spaced i) (spaced j))) w
+
+  pub four-spaced : (k i j c : ℕ) → Wrote out at l r (spaced k ++ spaced i ++ spaced j ++ spaced c) → Wrote out at l r (allSpaced (k ∷ i ∷ j ∷ c ∷ []))
+  unfolding allSpaced
+  four-spaced k i j c w =
+      subst (Wrote out at l r) (rw (append-nil (spaced c)) (append-assoc (spaced k ++ spaced i) (spaced j) (spaced c) ∙ append-assoc (spaced k) (spaced i) (spaced j ++ spaced c))) w

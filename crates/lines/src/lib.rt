@@ -8,13 +8,15 @@ ghost use mathlib.Core.List.{[], _∷_, _++_};
 ghost use Prim.Native.Nat.{_+_, _-_, _*_, _<_, _≤_};
 ghost use lib.ListN.{length};
 ghost use Rattle.rules.specs.Jobs.{over};
-ghost use Rattle.rules.specs.Report.{decimal, spaced, refusedLine, jobLine, excusedAbove};
+ghost use Rattle.rules.specs.Report.{decimal, spaced, allSpaced, refusedLine, jobLine, excusedAbove};
+ghost use Rattle.rules.specs.Calls.{saysRefusal};
 ghost use Rattle.rules.specs.Images.{ringAt};
 ghost use Rattle.lines.specs.Lines.{lineOf, jobOf, Wrote};
 ghost use Rattle.lines.specs.Whole.{Whole, Counted, Lined, linesTo};
 use counts::excused;
 use counts::filled;
 use limits::reach_of;
+use rules::Refusal;
 use rules::Settings;
 
 // A digit as the byte that prints it.
@@ -69,14 +71,35 @@ fn put_word(out: &mut [u8], at: usize, word: &[u8]) -> usize
     at + i
 }
 
+// The number of a refusal, and behind it its place, a space before each part.
+fn put_refusal(out: &mut [u8], at: usize, refusal: Refusal) -> usize
+    requires { ⌜ at + length (allSpaced (saysRefusal refusal)) ≤ length (now out) ⌝ }
+    ensures { λ r. ⌜ Wrote (now (out .entry)) at (now (out .exit)) r (allSpaced (saysRefusal refusal)) ⌝ }
+{
+    match refusal {
+        Refusal::Number(k) => put_spaced(out, at, numbers::wide(k)),
+        Refusal::InRow(k, place) => {
+            let number = put_spaced(out, at, numbers::wide(k));
+            let layer = put_spaced(out, number, place.layer);
+            put_spaced(out, layer, place.row)
+        }
+        Refusal::AtPixel(k, place) => {
+            let number = put_spaced(out, at, numbers::wide(k));
+            let layer = put_spaced(out, number, place.layer);
+            let row = put_spaced(out, layer, place.row);
+            put_spaced(out, row, place.column)
+        }
+    }
+}
+
 // The line of a refused job.
-pub fn refused_line(out: &mut [u8], k: usize) -> usize
-    requires { ⌜ length (refusedLine k) ≤ length (now out) ⌝ }
-    ensures { λ r. ⌜ (r ≡ length (refusedLine k)) × (now (out .exit) ≡ over (now (out .entry)) 0 (refusedLine k)) ⌝ }
+pub fn refused_line(out: &mut [u8], refusal: Refusal) -> usize
+    requires { ⌜ length (refusedLine (saysRefusal refusal)) ≤ length (now out) ⌝ }
+    ensures { λ r. ⌜ (r ≡ length (refusedLine (saysRefusal refusal))) × (now (out .exit) ≡ over (now (out .entry)) 0 (refusedLine (saysRefusal refusal))) ⌝ }
 {
     let word = put_word(out, 0, b"refused");
-    let number = put_spaced(out, word, k);
-    put_byte(out, number, 10)
+    let said = put_refusal(out, word, refusal);
+    put_byte(out, said, 10)
 }
 
 // The first line, from its numbers: the room is asked piece by piece, so that each piece finds its own.

@@ -3,9 +3,11 @@ use crate::job_lines;
 use crate::refused_line;
 use plan::plan;
 use rules::ReadJob;
+use rules::Refusal;
 use rules::Settings;
 ghost use mathlib.Core.Path.{_≡_};
 ghost use mathlib.Core.Bool.{cond, false};
+ghost use mathlib.Core.List.{[], _∷_};
 ghost use Prim.Native.Nat.{_+_, _-_, _*_, _<_, _≤_};
 ghost use lib.Dec.{ltb};
 ghost use lib.ListN.{length};
@@ -47,11 +49,11 @@ fn job_text(
     out: &mut [u8],
 ) -> usize
     requires { ⌜ Planable s (now part) × Room (now support) (now rings) (now out) ⌝ }
-    ensures { λ r. ⌜ Printed (cond (ltb 32768 (ringsIn s)) (refusedLine 17) (planLines s (now (part .entry)))) r (now (out .exit)) (now (out .entry)) ⌝ }
+    ensures { λ r. ⌜ Printed (cond (ltb 32768 (ringsIn s)) (refusedLine (17 ∷ [])) (planLines s (now (part .entry)))) r (now (out .exit)) (now (out .entry)) ⌝ }
 {
     let count = ring_count(s);
     if 32768 < count {
-        return refused_line(out, 17);
+        return refused_line(out, Refusal::Number(17));
     }
     let bytes = part.len();
     planned_lines(s, part, &mut support[..bytes], &mut rings[..count], out)
@@ -60,7 +62,7 @@ fn job_text(
 // The same, with support and rings of its own.
 fn read_text(s: Settings, part: &[u8], out: &mut [u8]) -> usize
     requires { ⌜ Planable s (now part) × (length (now out) ≡ 16384) ⌝ }
-    ensures { λ r. ⌜ Printed (cond (ltb 32768 (ringsIn s)) (refusedLine 17) (planLines s (now (part .entry)))) r (now (out .exit)) (now (out .entry)) ⌝ }
+    ensures { λ r. ⌜ Printed (cond (ltb 32768 (ringsIn s)) (refusedLine (17 ∷ [])) (planLines s (now (part .entry)))) r (now (out .exit)) (now (out .entry)) ⌝ }
 {
     let mut support = [0u8; 65536];
     let mut rings = [0u16; 32768];
@@ -72,13 +74,13 @@ pub fn report(file: &[u8], more: bool, out: &mut [u8; 16384]) -> usize
     ensures { λ r. ⌜ Reports (now (file .entry)) more (now (out .entry)) r (now (out .exit)) ⌝ }
 {
     if more {
-        return refused_line(out, 17); // the first of the two places of 17
+        return refused_line(out, Refusal::Number(17)); // the first of the two places of 17
     }
     if 65536 < file.len() {
-        return refused_line(out, 17);
+        return refused_line(out, Refusal::Number(17));
     }
     match job::read(file) {
-        ReadJob::Refused(k) => refused_line(out, numbers::wide(k)),
+        ReadJob::Refused(refusal) => refused_line(out, refusal),
         ReadJob::Job(l) => {
             let s = l.settings;
             read_text(s, job::part(file), out)

@@ -1,7 +1,7 @@
 use mathlib.Core.Path.{sym, _∙_}
 use lib.Seq.{length-take-le}
 use Rattle.laws.specs.Limits.{ranged}
-use Rattle.lines.specs.Printed.{refused-short, refused-printed, plan-fits, text-no-room, text-lines}
+use Rattle.lines.specs.Printed.{seventeen-short, refused-printed, plan-fits, text-no-room, text-lines}
 use native.Mathlib.Omega.{arith}
 use borrow.Author.Needs.{needs}
 use Rattle.lines.proofs.output.job_text.Statement.{statement}
@@ -11,7 +11,7 @@ returns : tie.Need-returns
 returns c =
     let b2 = c .before .before in let b4 = b2 .before .before in let b5 = b4 .before in let b10 = b5 .before .before .before .before .before in let args = b10 .args in
     text-no-room (args .s) (args .part .now) (b5 .ring-count .result) (b2 .refused-line .result) (b2 .refused-line .last .0) (args .out .now) (b5 .ring-count .ensures) (b4 .if1 .taken)
-    (refused-printed 17 (b2 .refused-line .result) (b2 .refused-line .last .0) (args .out .now) (omega arith) (b2 .refused-line .ensures))
+    (refused-printed _ (b2 .refused-line .result) (b2 .refused-line .last .0) (args .out .now) seventeen-short (b2 .refused-line .ensures))
 
 slice-aggregate-planned-lines-2 : tie.Need-slice-aggregate-planned-lines-2
 slice-aggregate-planned-lines-2 c =
@@ -37,6 +37,6 @@ pub job-text-spec : {M : Type 1} → statement M
 job-text-spec =
     tie.close
     (tie.spec (λ c κs. let b4 = c .before .before .before .before in let r = ranged (b4 .args .s) (b4 .pre .0 .settings) in (r .n-low, (r .n-high, (r .h-high, r .w-high))))
-    (λ c κs. omega (arith, refused-short 17 (omega arith), c .before .before .before .before .before .before .before .pre .1 .text)) (λ c. search needs) returns (λ c. search needs)
+    (λ c κs. omega (arith, seventeen-short, c .before .before .before .before .before .before .before .pre .1 .text)) (λ c. search needs) returns (λ c. search needs)
     (λ c. let b7 = c .before .before .before .before .before .before .before in sym (length-take-le _ (b7 .args .support .now) (omega (arith, b7 .pre .0 .fits, b7 .pre .1 .support))))
     (λ c. search needs) slice-aggregate-planned-lines-2 planned-lines-requires (λ c. search needs) (λ c. search needs) (λ c. search needs) returns-2)

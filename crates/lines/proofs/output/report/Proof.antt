@@ -1,16 +1,16 @@
-use Rattle.lines.specs.Printed.{refused-short, refused-printed, printed-report, longer-report, job-planable, job-printed, refused-report}
+use Rattle.lines.specs.Printed.{seventeen-short, refusal-short, refused-printed, printed-report, longer-report, job-planable, job-printed, refused-report}
 use native.Mathlib.Omega.{arith}
 use borrow.Author.Needs.{needs}
 use Rattle.lines.proofs.output.report.Statement.{statement}
 use Rattle.lines.proofs.output.report.Tie as tie
 
 returns : tie.Need-returns
-returns c = printed-report _ _ _ _ _ (rw (c .before .before .if1 .taken) (refused-printed 17 _ _ _ (omega arith) (c .refused-line .ensures)))
+returns c = printed-report _ _ _ _ _ (rw (c .before .before .if1 .taken) (refused-printed _ _ _ _ seventeen-short (c .refused-line .ensures)))
 
 returns-2 : tie.Need-returns-2
 returns-2 c =
     let b3 = c .before .before .before in
-    printed-report _ _ _ _ _ (rw (b3 .if1 .left) (longer-report _ _ _ _ (c .before .before .if2 .taken) (refused-printed 17 _ _ _ (omega arith) (c .refused-line2 .ensures))))
+    printed-report _ _ _ _ _ (rw (b3 .if1 .left) (longer-report _ _ _ _ (c .before .before .if2 .taken) (refused-printed _ _ _ _ seventeen-short (c .refused-line2 .ensures))))
 
 read-text-requires : tie.Need-read-text-requires
 read-text-requires c κs =
@@ -19,9 +19,11 @@ read-text-requires c κs =
 
 returns-3 : tie.Need-returns-3
 returns-3 c =
-    let b4 = c .before .before .before .before in let b6 = b4 .before .before in let b7 = b6 .before in let b8 = b7 .before in
-    printed-report _ _ _ _ _ (rw (b8 .if1 .left) (refused-report _ (b7 .if2 .left) _ (b6 .read .ensures) _ _ _ _ _ (b4 .k .given .1) (c .before .wide .ensures .0)
-    (refused-printed _ _ _ _ (c .before .wide .ensures .1) (c .refused-line3 .ensures))))
+    let short = refusal-short _ ($if2 .left) _ ($read .ensures) _ ($refusal .given .1) in
+    printed-report _ _ _ _ _ (rw ($if1 .left) (refused-report _ ($if2 .left) _ ($read .ensures) _ _ _ _ ($refusal .given .1) (refused-printed _ _ _ _ short ($refused-line3 .ensures))))
+
+refused-line-requires-3 : tie.Need-refused-line-requires-3
+refused-line-requires-3 c κs = omega (arith, refusal-short _ ($if2 .left) _ ($read .ensures) _ ($refusal .given .1))
 
 returns-4 : tie.Need-returns-4
 returns-4 c =
@@ -31,5 +33,5 @@ returns-4 c =
 pub report-spec : {M : Type 1} → statement M
 report-spec =
     tie.close
-    (tie.spec (λ c κs. omega (arith, refused-short 17 (omega arith))) returns (λ c κs. omega (arith, refused-short 17 (omega arith))) returns-2 (λ c κs. search needs) (λ c. search needs)
-    (λ c κs. search needs) (λ c κs. omega (arith, refused-short (c .wide .result) (c .wide .ensures .1))) (λ c. search needs) (λ c κs. search needs) read-text-requires returns-3 returns-4)
+    (tie.spec (λ c κs. omega (arith, seventeen-short)) returns (λ c κs. omega (arith, seventeen-short)) returns-2 (λ c κs. search needs) (λ c. search needs)
+    refused-line-requires-3 (λ c. search needs) (λ c κs. search needs) read-text-requires returns-3 returns-4)
