@@ -4,6 +4,7 @@ use libc::STDOUT_FILENO;
 use rules::CopiedRings;
 use rules::Micrometres;
 use rules::ReadJob;
+use rules::Refusal;
 use rules::Settings;
 use rules::WrittenJob;
 ghost use mathlib.Core.Path.{_≡_};
@@ -20,22 +21,55 @@ fn show(n: u64) {
     io::print_decimal(STDOUT_FILENO, n);
 }
 
-fn read_number(r: ReadJob) -> u64 {
+fn wide(n: usize) -> u64 {
+    n as u64
+}
+
+// A refusal: its number, and its place where it has one.
+fn show_refusal(r: Refusal) {
     match r {
-        ReadJob::Job(_) => 0,
-        ReadJob::Refused(k) => k as u64,
+        Refusal::Number(k) => show(k as u64),
+        Refusal::InRow(k, at) => {
+            show(k as u64);
+            show(wide(at.layer));
+            show(wide(at.row));
+        }
+        Refusal::AtPixel(k, at) => {
+            show(k as u64);
+            show(wide(at.layer));
+            show(wide(at.row));
+            show(wide(at.column));
+        }
     }
 }
 
-fn copy_number(r: CopiedRings) -> u64 {
+fn number(r: Refusal) -> u64 {
     match r {
-        CopiedRings::Copied => 0,
-        CopiedRings::Refused(k) => k as u64,
+        Refusal::Number(k) => k as u64,
+        Refusal::InRow(k, _) => k as u64,
+        Refusal::AtPixel(k, _) => k as u64,
+    }
+}
+
+fn read_number(r: ReadJob) -> u64 {
+    match r {
+        ReadJob::Job(_) => 0,
+        ReadJob::Refused(k) => number(k),
+    }
+}
+
+fn show_copied(r: CopiedRings) {
+    match r {
+        CopiedRings::Copied => show(0),
+        CopiedRings::Refused(k) => show_refusal(k),
     }
 }
 
 fn show_read(file: &[u8]) {
-    show(read_number(job::read(file)));
+    match job::read(file) {
+        ReadJob::Job(_) => show(0),
+        ReadJob::Refused(k) => show_refusal(k),
+    }
 }
 
 // How many cuts of a file are refused with 12.
@@ -74,14 +108,14 @@ fn show_counts(file: &[u8], at: usize, less: u8, more: u8)
     show_count(file, at, 255, 255);
 }
 
-// Reads a file of 44 bytes, 7 pixels wide, with other last bytes of a row of part and of support.
-fn show_padding(file: &[u8], part: u8, support: u8)
-    requires { ⌜ length (now file) ≡ 44 ⌝ }
+// Reads a file of 44 bytes, two layers of a row 7 pixels wide, with another row of part and of support in a layer.
+fn show_padding(file: &[u8], layer: usize, part: u8, support: u8)
+    requires { ⌜ (layer ≤ 1) × (length (now file) ≡ 44) ⌝ }
 {
     let mut changed = [0u8; 44];
     bytes::copy(file, &mut changed);
-    changed[18] = part;
-    changed[24] = support;
+    changed[18 + layer] = part;
+    changed[24 + layer] = support;
     show_read(&changed);
 }
 
@@ -132,14 +166,10 @@ fn written(r: WrittenJob, room: usize) -> usize
     }
 }
 
-fn wide(n: usize) -> u64 {
-    n as u64
-}
-
 // The numbers of reading a job and of copying its rings, and whether part, support and rings are what was written.
 fn show_back(file: &[u8], part: &[u8], support: &[u8], rings: &[u16], back: &mut [u16]) {
     show_read(file);
-    show(copy_number(job::copy_rings(file, back)));
+    show_copied(job::copy_rings(file, back));
     show(told(check::same(job::part(file), part)));
     show(told(check::same(job::support(file), support)));
     show(told(same_rings(back, rings)));
@@ -211,10 +241,11 @@ fn main() {
     say(b"\npadding");
     let narrow =
         b"\x00\x00\x00\x05\x00\x07\x00\x01\x00\x02\x00\x64\x00\xC8\x00\x00\x00\x02\xE0\xFE\x00\x00\x00\x02\x06\x00\x00\x00\x00\x07\x00\x00\x00\x00\x00\x00\x00\x01\x00\x02\x00\x00\x00\x00";
-    show_padding(narrow, 224, 6);
-    show_padding(narrow, 225, 6);
-    show_padding(narrow, 224, 7);
-    show_padding(narrow, 225, 7);
+    show_padding(narrow, 0, 224, 6);
+    show_padding(narrow, 0, 225, 6);
+    show_padding(narrow, 0, 224, 7);
+    show_padding(narrow, 1, 225, 7);
+    show_padding(narrow, 1, 254, 1);
     say(b"\nsingle");
     show_read(
         b"\x00\x00\x00\x05\x00\x08\x00\x01\x00\x01\x00\x64\x00\xC8\x00\x00\x00\x01\xFF\x00\x00\x00\x00\x00\x00\x00\x00",

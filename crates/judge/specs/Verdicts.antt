@@ -182,7 +182,22 @@ module _ (w h n u : ℕ) (l : u < n * (h * w)) where
       let byte : u % w / 8 < (w + 7) / 8 = omega arith in
       rw e (digits-lt row byte)
 
--- and its number
-pub number-is : (part : Stack) (i p : ℕ) (b : Bool) → b ≡ part (suc i) p → cond b 11 19 ≡ unheldNumber part i p
-unfolding unheldNumber
-number-is part i p b e = rw e
+-- so it is read off the part, in the layer that is told
+module _ (s : Settings) (part : List ℕ) (u : ℕ) (ready : Ranged s × ((length part ≡ stackBytes s) × (u < (s .n - 1) * (s .h * s .w)))) where
+  pub row-most : u / s .w + s .h ≤ 131072
+  row-most =
+      let (r, (e, l)) = ready in
+      let n : s .n - 1 ≤ 511 = omega (arith, r .n-high) in
+      omega (arith, stack-row (s .w) (s .h) (s .n - 1) u l .2, mul-le-mul n (r .h-high), r .h-high)
+
+  pub byte-there : (rb : ℕ) → rb ≡ rowBytes (s .w) → (u / s .w + s .h) * rb + u % s .w / 8 < length part
+  unfolding stackBytes rowsOf
+  byte-there rb er =
+      let (r, (e, l)) = ready in
+      let n : s .n - 1 + 1 ≡ s .n = omega (arith, r .n-low) in
+      rw er (byte-above (s .w) (s .h) (s .n - 1) u l (length part) (r .w-low) (e ∙ rw n))
+
+  pub number-is : (rb : ℕ) (b : Bool) → rb ≡ rowBytes (s .w) → b ≡ bitIn part ((u / s .w + s .h) * rb) (u % s .w) →
+      cond b 11 19 ≡ unheldNumber (pixel (s .w) (s .h) part) (u / (s .h * s .w)) (u % (s .h * s .w))
+  unfolding unheldNumber
+  number-is rb b er eb = rw (eb ∙ pixel-above (s .w) (s .h) (s .n - 1) u (ready .1 .1) part _ (rw er))

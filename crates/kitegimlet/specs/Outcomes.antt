@@ -5,7 +5,7 @@ use mathlib.Core.List.{List}
 use Prim.Native.Nat.{ℕ}
 use lib.ListN.{length}
 use Rattle.rules.specs.Jobs.{Job}
-use Rattle.rules.specs.Calls.{reachAnswer, planAnswer, planSupport, planRings, cleanAnswer, cleanSupport, cleanRings, cleanCleaned, judgeAnswer, readRefusal}
+use Rattle.rules.specs.Calls.{reachAnswer, planAnswer, planSupport, planRings, cleanAnswer, cleanSupport, cleanRings, cleanCleaned, judgeAnswer, readAnswer}
 use Rattle.rules.specs.Calls.{copyAnswer, copyRings, writeAnswer, writeTo}
 use Rattle.rules.specs.Outcomes.{Reaches, Plans, Cleans, Judges, Copies, Writes}
 use Rattle.rules.specs.declared.Pixels.{Pixels}
@@ -15,7 +15,7 @@ use Rattle.rules.specs.declared.Planned.{Planned}
 use Rattle.rules.specs.declared.Judged.{Judged}
 use Rattle.rules.specs.declared.CopiedRings.{CopiedRings}
 use Rattle.rules.specs.declared.WrittenJob.{WrittenJob}
-use Rattle.answers.specs.Packed.{um, jobOf, packReached, packPlanned, packJudged, packCopied, packWritten, toldIn, partStretch, supportStretch}
+use Rattle.answers.specs.Packed.{um, jobOf, packReached, packPlanned, packJudged, packRead, packCopied, packWritten, toldIn, partStretch, supportStretch}
 
 -- kg_reach, kg_check, kg_part, kg_support: only a number comes back -----------------------------------------------------------
 
@@ -86,7 +86,7 @@ clean-packed s t c part sup ring clean r a sup′ ring′ clean′ same x e =
 -- kg_read: room for what is told is lent ----------------------------------------------------------------------------------------
 
 pub record KgReads (f room : List ℕ) (r : ℕ) (room′ : List ℕ) : Type 0 where
-  pub answer : r ≡ readRefusal f
+  pub answer : r ≡ packRead (readAnswer f)
   pub told : room′ ≡ toldIn f room
 
 pub kg-read-settled : (f room : List ℕ) (r q : ℕ) (a b : List ℕ) → KgReads f room r a → KgReads f room q b → (r ≡ q) × (a ≡ b)

@@ -7,14 +7,15 @@ use native.Mathlib.Omega.{arith}
 use lib.ListN.{length, take, drop}
 use Rattle.rules.specs.Images.{rowBytes, stackBytes}
 use Rattle.rules.specs.Jobs.{partEnd, supportEnd, settingsIn, storedIn, layoutOf}
-use Rattle.rules.specs.Calls.{readRefusal}
+use Rattle.rules.specs.Calls.{readRefusal, refusedIn}
 use Rattle.rules.specs.Outcomes.{Reads}
+use Rattle.rules.specs.declared.Refusal.{Refusal}
 use Rattle.rules.specs.declared.Layout.{Layout}
 use Rattle.rules.specs.declared.ReadJob.{ReadJob}
 use Rattle.rules.specs.declared.ReadJob.the-variants.{Job, Refused}
 use Rattle.laws.specs.Refusals.{answer-fine, answer-refused}
 use Rattle.laws.specs.Demand1.{job-read, job-refused}
-use Rattle.answers.specs.Packed.{told, toldIn, stretch, partStretch, supportStretch}
+use Rattle.answers.specs.Packed.{packRefusal, packRead, told, toldIn, stretch, partStretch, supportStretch}
 use Rattle.kitegimlet.specs.Outcomes.{KgReads, KgHandsPart, KgHandsSupport}
 
 -- a section is as long as what lies between its offset and the next count
@@ -30,7 +31,7 @@ module _ (f : List ℕ) (r : ReadJob) (is : Reads f r) where
   is-job : (l : Layout) → r ≡ Job l → (readRefusal f ≡ 0) × (l ≡ layoutOf f)
   is-job l e = job-read f r l (is .answer) e
 
-  is-refused : (k : ℕ) → r ≡ Refused k → (k ≡ readRefusal f) × (readRefusal f ≡ 0 → ⊥)
+  is-refused : (k : Refusal) → r ≡ Refused k → (k ≡ refusedIn f (readRefusal f)) × (readRefusal f ≡ 0 → ⊥)
   is-refused k e = job-refused f r k (is .answer) e
 
   -- reading: all told, or the number and nothing told
@@ -38,11 +39,11 @@ module _ (f : List ℕ) (r : ReadJob) (is : Reads f r) where
   unfolding toldIn
   read-told l room now e t =
       let (z, y) = is-job l e in
-      record { answer = sym z; told = t ∙ ap (λ (x : Layout). take (length room) (told x) ++ drop 10 room) y ∙ sym (answer-fine (readRefusal f) _ (λ k. room) z) }
+      record { answer = sym (ap packRead (sym (is .answer) ∙ e)); told = t ∙ ap (λ (x : Layout). take (length room) (told x) ++ drop 10 room) y ∙ sym (answer-fine (readRefusal f) _ (λ k. room) z) }
 
-  pub read-kept : (k j : ℕ) (room : List ℕ) → r ≡ Refused k → j ≡ k → KgReads f room j room
+  pub read-kept : (k : Refusal) (j : ℕ) (room : List ℕ) → r ≡ Refused k → j ≡ packRefusal k → KgReads f room j room
   unfolding toldIn
-  read-kept k j room e w = let (y, n) = is-refused k e in record { answer = w ∙ y; told = sym (answer-refused (readRefusal f) _ (λ k. room) n) }
+  read-kept k j room e w = let (y, n) = is-refused k e in record { answer = w ∙ sym (ap packRead (sym (is .answer) ∙ e)); told = sym (answer-refused (readRefusal f) _ (λ k. room) n) }
 
   -- the part
   pub part-room : (l : Layout) → r ≡ Job l → l .part + 4 ≤ l .support
@@ -55,7 +56,7 @@ module _ (f : List ℕ) (r : ReadJob) (is : Reads f r) where
       let (z, y) = is-job l e in
       record { answer = t ∙ ap (λ (x : Layout). stretch (x .part) (x .support - 4 - x .part)) y ∙ ap (stretch (layoutOf f .part)) (part-length f) ∙ sym (answer-fine (readRefusal f) _ (λ k. 0) z) }
 
-  pub part-no : (k : ℕ) → r ≡ Refused k → KgHandsPart f 0
+  pub part-no : (k : Refusal) → r ≡ Refused k → KgHandsPart f 0
   unfolding partStretch
   part-no k e = let (y, n) = is-refused k e in record { answer = sym (answer-refused (readRefusal f) _ (λ k. 0) n) }
 
@@ -74,6 +75,6 @@ module _ (f : List ℕ) (r : ReadJob) (is : Reads f r) where
             ∙ sym (answer-fine (readRefusal f) _ (λ k. 0) z);
       }
 
-  pub support-no : (k : ℕ) → r ≡ Refused k → KgHandsSupport f 0
+  pub support-no : (k : Refusal) → r ≡ Refused k → KgHandsSupport f 0
   unfolding supportStretch
   support-no k e = let (y, n) = is-refused k e in record { answer = sym (answer-refused (readRefusal f) _ (λ k. 0) n) }

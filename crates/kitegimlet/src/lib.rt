@@ -87,7 +87,7 @@ pub extern "C" fn kg_read(file: &[u8], room: &mut [usize]) -> usize
             answers::write_layout(l, room);
             0
         }
-        ReadJob::Refused(k) => numbers::wide(k),
+        ReadJob::Refused(r) => answers::pack_refusal(r),
     }
 }
 

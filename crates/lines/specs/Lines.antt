@@ -7,7 +7,12 @@ use lib.ListN.{length, set, length-append}
 use Rattle.rules.specs.Jobs.{over}
 use Rattle.rules.specs.Reach.{reachOf}
 use Rattle.rules.specs.Report.{decimal, spaced, newline, allSpaced, refusedLine, jobLine}
+use Rattle.rules.specs.Calls.{saysRefusal}
 use Rattle.rules.specs.declared.Settings.{Settings}
+use Rattle.rules.specs.declared.Place.{Place}
+use Rattle.rules.specs.declared.RowPlace.{RowPlace}
+use Rattle.rules.specs.declared.Refusal.{Refusal}
+use Rattle.rules.specs.declared.Refusal.the-variants.{Number, InRow, AtPixel}
 use Rattle.rules.specs.declared.Pixels.{Pixels}
 use Rattle.laws.specs.Runs.{stores1, length-over, after}
 use Rattle.laws.specs.ReportLaws.{decimal-length}
@@ -78,17 +83,37 @@ pub refused-long : (said : List ℕ) → length (refusedLine said) ≡ 8 + lengt
 unfolding refusedLine
 refused-long said = simp length-append (omega arith)
 
--- the numbers of a refusal, one piece after another
-module _ {out : List ℕ} {at : ℕ} {l : List ℕ} {r : ℕ} where
-  pub one-spaced : (k : ℕ) → Wrote out at l r (spaced k) → Wrote out at l r (allSpaced (k ∷ []))
-  unfolding allSpaced
-  one-spaced k w = subst (Wrote out at l r) (sym (append-nil (spaced k))) w
+pub two-end : {out : List ℕ} {at : ℕ} {l : List ℕ} {r : ℕ} (x y : ℕ) → Wrote out at l r (spaced x ++ spaced y) → r ≡ at + (length (spaced x) + length (spaced y))
+two-end x y w = omega (arith, w .ends, length-append (spaced x) (spaced y))
 
-  pub three-spaced : (k i j : ℕ) → Wrote out at l r (spaced k ++ spaced i ++ spaced j) → Wrote out at l r (allSpaced (k ∷ i ∷ j ∷ []))
+-- What a refusal says, one piece after another, and the room that it asks; j is its number as the code has it
+module _ (v : Refusal) (k j : ℕ) (w : j ≡ k) where
+  pub number-room : v ≡ Number k → length (allSpaced (saysRefusal v)) ≡ length (spaced j)
   unfolding allSpaced
-  three-spaced k i j w = subst (Wrote out at l r) (rw (append-nil (spaced j)) (append-assoc (spaced k) (spaced i) (spaced j))) w
+  number-room e = rw (e, w, append-nil (spaced k))
 
-  pub four-spaced : (k i j c : ℕ) → Wrote out at l r (spaced k ++ spaced i ++ spaced j ++ spaced c) → Wrote out at l r (allSpaced (k ∷ i ∷ j ∷ c ∷ []))
+  pub row-room : (at : RowPlace) → v ≡ InRow k at → length (allSpaced (saysRefusal v)) ≡ length (spaced j) + (length (spaced (at .layer)) + length (spaced (at .row)))
   unfolding allSpaced
-  four-spaced k i j c w =
-      subst (Wrote out at l r) (rw (append-nil (spaced c)) (append-assoc (spaced k ++ spaced i) (spaced j) (spaced c) ∙ append-assoc (spaced k) (spaced i) (spaced j ++ spaced c))) w
+  row-room at e = rw (e, w) (simp length-append (omega arith))
+
+  pub pixel-room : (at : Place) → v ≡ AtPixel k at →
+      length (allSpaced (saysRefusal v)) ≡ length (spaced j) + (length (spaced (at .layer)) + length (spaced (at .row))) + length (spaced (at .column))
+  unfolding allSpaced
+  pixel-room at e = rw (e, w) (simp length-append (omega arith))
+
+  module _ {out : List ℕ} {at : ℕ} {l : List ℕ} {r : ℕ} where
+    pub number-said : v ≡ Number k → Wrote out at l r (spaced j) → Wrote out at l r (allSpaced (saysRefusal v))
+    unfolding allSpaced
+    number-said e x = rw e (subst (Wrote out at l r) (rw (w, append-nil (spaced k))) x)
+
+    pub row-said : (p : RowPlace) → v ≡ InRow k p → Wrote out at l r (spaced j ++ (spaced (p .layer) ++ spaced (p .row))) → Wrote out at l r (allSpaced (saysRefusal v))
+    unfolding allSpaced
+    row-said p e x = rw e (subst (Wrote out at l r) (rw (w, append-nil (spaced (p .row)))) x)
+
+    pub pixel-said : (p : Place) → v ≡ AtPixel k p → Wrote out at l r (spaced j ++ (spaced (p .layer) ++ spaced (p .row)) ++ spaced (p .column)) → Wrote out at l r (allSpaced (saysRefusal v))
+    unfolding allSpaced
+    pixel-said p e x =
+        let a : (spaced k ++ (spaced (p .layer) ++ spaced (p .row))) ++ spaced (p .column) ≡ spaced k ++ (spaced (p .layer) ++ (spaced (p .row) ++ spaced (p .column))) =
+        append-assoc (spaced k) (spaced (p .layer) ++ spaced (p .row)) (spaced (p .column))
+        ∙ ap (λ (y : List ℕ). spaced k ++ y) (append-assoc (spaced (p .layer)) (spaced (p .row)) (spaced (p .column))) in
+        rw e (subst (Wrote out at l r) (rw (w, append-nil (spaced (p .column))) a) x)

@@ -71,6 +71,15 @@ fn put_word(out: &mut [u8], at: usize, word: &[u8]) -> usize
     at + i
 }
 
+// Two numbers, a space before each.
+fn put_two(out: &mut [u8], at: usize, x: usize, y: usize) -> usize
+    requires { ⌜ at + (length (spaced x) + length (spaced y)) ≤ length (now out) ⌝ }
+    ensures { λ r. ⌜ Wrote (now (out .entry)) at (now (out .exit)) r (spaced x ++ spaced y) ⌝ }
+{
+    let next = put_spaced(out, at, x);
+    put_spaced(out, next, y)
+}
+
 // The number of a refusal, and behind it its place, a space before each part.
 fn put_refusal(out: &mut [u8], at: usize, refusal: Refusal) -> usize
     requires { ⌜ at + length (allSpaced (saysRefusal refusal)) ≤ length (now out) ⌝ }
@@ -80,13 +89,11 @@ fn put_refusal(out: &mut [u8], at: usize, refusal: Refusal) -> usize
         Refusal::Number(k) => put_spaced(out, at, numbers::wide(k)),
         Refusal::InRow(k, place) => {
             let number = put_spaced(out, at, numbers::wide(k));
-            let layer = put_spaced(out, number, place.layer);
-            put_spaced(out, layer, place.row)
+            put_two(out, number, place.layer, place.row)
         }
         Refusal::AtPixel(k, place) => {
             let number = put_spaced(out, at, numbers::wide(k));
-            let layer = put_spaced(out, number, place.layer);
-            let row = put_spaced(out, layer, place.row);
+            let row = put_two(out, number, place.layer, place.row);
             put_spaced(out, row, place.column)
         }
     }

@@ -8,6 +8,7 @@ use rules::Judged;
 use rules::Micrometres;
 use rules::Pixels;
 use rules::Planned;
+use rules::Refusal;
 use rules::Settings;
 ghost use mathlib.Core.Path.{_≡_};
 ghost use Prim.Native.Nat.{_≤_, _<_};
@@ -67,23 +68,35 @@ fn settings(w: usize, h: usize, n: usize, pitch: u32, overhang: u32) -> Settings
     }
 }
 
-fn plan_number(r: Planned) -> u64 {
+// A refusal: its number, and its place where it has one.
+fn show_refusal(r: Refusal) {
     match r {
-        Planned::Done => 0,
-        Planned::Refused(k) => k as u64,
+        Refusal::Number(k) => show(k as u64),
+        Refusal::InRow(k, at) => {
+            show(k as u64);
+            show(wide(at.layer));
+            show(wide(at.row));
+        }
+        Refusal::AtPixel(k, at) => {
+            show(k as u64);
+            show(wide(at.layer));
+            show(wide(at.row));
+            show(wide(at.column));
+        }
+    }
+}
+
+fn show_planned(r: Planned) {
+    match r {
+        Planned::Done => show(0),
+        Planned::Refused(k) => show_refusal(k),
     }
 }
 
 fn show_judged(r: Judged) {
     match r {
         Judged::Accepted => show(0),
-        Judged::Refused(k) => show(k as u64),
-        Judged::RefusedAt(k, at) => {
-            show(k as u64);
-            show(wide(at.layer));
-            show(wide(at.row));
-            show(wide(at.column));
-        }
+        Judged::Refused(k) => show_refusal(k),
     }
     say(b"\n");
 }
@@ -91,7 +104,7 @@ fn show_judged(r: Judged) {
 // Plans a piece, and has its result checked.
 fn show_plan(name: &[u8], s: Settings, part: &[u8], support: &mut [u8], rings: &mut [u16]) {
     say(name);
-    show(plan_number(plan(s, part, support, rings)));
+    show_planned(plan(s, part, support, rings));
     say(b" support");
     show_bytes(support);
     say(b" rings");
@@ -181,6 +194,33 @@ fn checks() {
     show_check(b"m", &[0x27, 0x00], &rings);
 }
 
+// Checks two layers of eight pixels without a ring, at reach 0.
+fn show_hanging(name: &[u8], part: &[u8], support: &[u8]) {
+    say(name);
+    show_judged(judge(settings(8, 1, 2, 100, 0), part, support, &[0u16; 8]));
+}
+
+// Plans and checks three layers of two rows with five pixels.
+fn show_padded(name: &[u8], part: &[u8], support: &[u8]) {
+    let s = settings(5, 2, 3, 100, 0);
+    let mut planned = [0xAAu8; 6];
+    let mut rings = [7u16; 20];
+    say(name);
+    show_planned(plan(s, part, &mut planned, &mut rings));
+    say(b" check");
+    show_judged(judge(s, part, support, &[0u16; 20]));
+}
+
+// What hangs, part or support, and the first row whose padding is set.
+fn places() {
+    show_hanging(b"t", &[0x80, 0x80], &[0x00, 0x08]);
+    show_hanging(b"u", &[0x80, 0x82], &[0x00, 0x08]);
+    show_hanging(b"v", &[0x80, 0x88], &[0x00, 0x02]);
+    show_padded(b"w", &[0, 0, 0, 4, 1, 0], &[0u8; 6]);
+    show_padded(b"x", &[8u8; 6], &[0, 0, 0, 0, 2, 1]);
+    show_padded(b"y", &[0, 0, 0, 0, 0, 7], &[7, 0, 0, 0, 0, 0]);
+}
+
 // Cleans two layers of eight pixels, and has the result checked.
 fn show_clean(name: &[u8], part: &[u8], gap: usize) {
     let s = settings(8, 1, 2, 100, 100);
@@ -188,7 +228,7 @@ fn show_clean(name: &[u8], part: &[u8], gap: usize) {
     let mut rings = [7u16; 8];
     let mut cleaned = [0xAAu8; 2];
     say(name);
-    show(plan_number(clean(s, Pixels(gap), part, &mut support, &mut rings, &mut cleaned)));
+    show_planned(clean(s, Pixels(gap), part, &mut support, &mut rings, &mut cleaned));
     say(b" support");
     show_bytes(&support);
     say(b" cleaned");
@@ -249,7 +289,7 @@ fn show_rings_in(rings: &[u16]) {
 // Plans a large piece and shows the filled bytes of its support, how many rings there are and the largest, and the check.
 fn show_large(name: &[u8], s: Settings, part: &[u8], support: &mut [u8], rings: &mut [u16]) {
     say(name);
-    show(plan_number(plan(s, part, support, rings)));
+    show_planned(plan(s, part, support, rings));
     show(filled(support));
     show_rings_in(rings);
     say(b" check");
@@ -352,6 +392,7 @@ fn main() {
     plans();
     checks();
     cleans();
+    places();
     full();
     half();
     disc();

@@ -16,9 +16,10 @@ use Rattle.job.proofs.copy_rings.Tie as tie
 returns : tie.Need-returns
 unfolding copyAnswer copyRings
 returns c =
+    let b5 = c .before .before .before .before .before in
     record {
-      answer = ap Refused (c .refused-in .ensures) ∙ says-no Copied (λ k. Refused (refusedIn (now (c .before .before .before .before .before .args .file)) k)) (c .before .before .copy-refusal .ensures) (c .before .if1 .taken);
-      rings = says-no (ringsStored (now (c .before .before .before .before .before .args .file))) (λ k. now (c .before .before .before .before .before .args .rings)) (c .before .before .copy-refusal .ensures) (c .before .if1 .taken);
+      answer = ap Refused (c .refused-in .ensures) ∙ says-no Copied (λ k. Refused (refusedIn (now (b5 .args .file)) k)) (c .before .before .copy-refusal .ensures) (c .before .if1 .taken);
+      rings = says-no (ringsStored (now (b5 .args .file))) (λ k. now (b5 .args .rings)) (c .before .before .copy-refusal .ensures) (c .before .if1 .taken);
     }
 
 refused-in-requires : tie.Need-refused-in-requires

@@ -11,11 +11,15 @@ refused-in-requires c κs = ((λ e. sym (c .before .read-refusal .ensures) ∙ e
 
 returns : tie.Need-returns
 unfolding readAnswer
-returns c = record { answer = ap Refused (c .refused-in .ensures) ∙ says-no _ (λ k. Refused (refusedIn (c .before .before .before .before .args .file .now) k)) (c .before .before .read-refusal .ensures) (c .before .if1 .taken) }
+returns c =
+    let b4 = c .before .before .before .before in
+    record { answer = ap Refused (c .refused-in .ensures) ∙ says-no _ (λ k. Refused (refusedIn (b4 .args .file .now) k)) (c .before .before .read-refusal .ensures) (c .before .if1 .taken) }
 
 returns-2 : tie.Need-returns-2
 unfolding readAnswer
-returns-2 c = record { answer = says-yes _ (λ k. Refused (refusedIn (c .before .before .before .before .args .file .now) k)) (c .before .before .read-refusal .ensures) (c .before .if1 .left) (ap Job (c .layout .ensures)) }
+returns-2 c =
+    let b4 = c .before .before .before .before in
+    record { answer = says-yes _ (λ k. Refused (refusedIn (b4 .args .file .now) k)) (c .before .before .read-refusal .ensures) (c .before .if1 .left) (ap Job (c .layout .ensures)) }
 
 pub read-spec : {M : Type 1} → statement M
 read-spec =

@@ -13,14 +13,17 @@ use Rattle.job.proofs.write.Tie as tie
 returns : tie.Need-returns
 unfolding writeAnswer writeTo
 returns c =
-    let A = c .before .before .before .before .before .before .before .args in
+    let b7 = c .before .before .before .before .before .before .before in
+    let A = b7 .args in
     record {
       answer = ap Refused (c .both-refused .ensures) ∙ says-no _ (λ k. Refused (refused (A .s) (A .part .now) (A .support .now) k)) (c .before .before .write-refusal .ensures) (c .before .if1 .taken);
       destination = says-no _ (λ k. now (A .out)) (c .before .before .write-refusal .ensures) (c .before .if1 .taken);
     }
 
 both-refused-requires : tie.Need-both-refused-requires
-both-refused-requires c κs = let A = c .before .before .before .before .before .before .args in padding-told (A .s) (A .part .now) (A .support .now) (A .rings .now) _ _ (c .before .write-refusal .ensures)
+both-refused-requires c κs =
+    let b6 = c .before .before .before .before .before .before in
+    let A = b6 .args in padding-told (A .s) (A .part .now) (A .support .now) (A .rings .now) _ _ (c .before .write-refusal .ensures)
 
 job-end-requires : tie.Need-job-end-requires
 job-end-requires c κs =

@@ -19,11 +19,14 @@ read-text-requires c κs =
 
 returns-3 : tie.Need-returns-3
 returns-3 c =
-    let short = refusal-short _ ($if2 .left) _ ($read .ensures) _ ($refusal .given .1) in
-    printed-report _ _ _ _ _ (rw ($if1 .left) (refused-report _ ($if2 .left) _ ($read .ensures) _ _ _ _ ($refusal .given .1) (refused-printed _ _ _ _ short ($refused-line3 .ensures))))
+    let b3 = c .before .before .before in let b5 = b3 .before .before in let b6 = b5 .before in let b7 = b6 .before in
+    let short = refusal-short _ (b6 .if2 .left) _ (b5 .read .ensures) _ (b3 .refusal .given .1) in
+    printed-report _ _ _ _ _ (rw (b7 .if1 .left) (refused-report _ (b6 .if2 .left) _ (b5 .read .ensures) _ _ _ _ (b3 .refusal .given .1) (refused-printed _ _ _ _ short (c .refused-line3 .ensures))))
 
 refused-line-requires-3 : tie.Need-refused-line-requires-3
-refused-line-requires-3 c κs = omega (arith, refusal-short _ ($if2 .left) _ ($read .ensures) _ ($refusal .given .1))
+refused-line-requires-3 c κs =
+    let b4 = c .before .before .before .before in let b5 = b4 .before in
+    omega (arith, refusal-short _ (b5 .if2 .left) _ (b4 .read .ensures) _ (c .before .before .refusal .given .1))
 
 returns-4 : tie.Need-returns-4
 returns-4 c =
