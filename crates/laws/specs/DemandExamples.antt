@@ -3,16 +3,17 @@ use mathlib.Core.Path.{_≡_, refl, sym, ap}
 use mathlib.Core.Logic.{_⊎_, inl, inr}
 use mathlib.Core.Bool.{Bool, true, false, _&&_, _||_}
 use mathlib.Core.List.{List, [], _∷_}
-use Prim.Native.Nat.{ℕ, zero, suc, _<_}
+use Prim.Native.Nat.{ℕ, zero, suc, _+_, _*_, _<_}
 use native.Mathlib.Omega.{arith}
 use lib.Dec.{eqb}
-use lib.ListN.{getD}
+use lib.ListN.{length, getD}
 use Rattle.rules.specs.Tools.{Case, _when_, some}
-use Rattle.rules.specs.Images.{Stack, rowBytes, bitAt, pixel}
+use Rattle.rules.specs.Images.{Stack, rowBytes, bitAt, pixel, padded}
 use Rattle.rules.specs.Reach.{square, apart, distance²}
 use Rattle.rules.specs.Planning.{shadow, near, seeds, reached, touch}
-use Rattle.rules.specs.Demands.{Given, here, later, Applies, this, further, NoneGiven, next, Earlier, sooner-layer, sooner-row, sooner-column, FirstAt, Joined}
+use Rattle.rules.specs.Demands.{Given, here, later, Applies, this, further, NoneGiven, next, Earlier, sooner-layer, sooner-row, sooner-column, FirstAt, FirstRow, Tells, Joined}
 use Rattle.rules.specs.Demands.{start, onward, Excused, Sound, Bytes, Words}
+use Rattle.rules.specs.declared.Settings.{Settings}
 use Rattle.laws.specs.Tests.{split, clash, and-in, some-in}
 
 -- Given exactly when --------------------------------------------------------------------------------------------------------
@@ -61,6 +62,48 @@ empty-not-first a =
     let r : a .r ≡ 0 = sym (ap (λ x. x .row) (a .told)) in
     let c : a .c ≡ 0 = sym (ap (λ x. x .column) (a .told)) in
     clash (rw (r, c) at (a .passes)) refl
+
+-- The first row whose padding is set, of five columns ------------------------------------------------------------------------------
+
+pub last-row-first : FirstRow 5 2 2 (0 ∷ 8 ∷ 0 ∷ 1 ∷ []) 1 1
+unfolding padded rowBytes
+last-row-first = record { inside = (omega arith, omega arith); bad = refl; none-earlier = λ j s lj ls e. go j s lj ls e }
+  where
+    go : (j s : ℕ) → j < 2 → s < 2 → Earlier j s 0 1 1 0 → padded 5 (0 ∷ 8 ∷ 0 ∷ 1 ∷ []) (j * 2 + s) ≡ false
+    go zero zero lj ls e = refl
+    go zero (suc zero) lj ls e = refl
+    go (suc zero) zero lj ls e = refl
+    go (suc zero) (suc zero) lj ls (sooner-layer l) = absurd (omega arith)
+    go (suc zero) (suc zero) lj ls (sooner-row i l) = absurd (omega arith)
+    go (suc zero) (suc zero) lj ls (sooner-column i k l) = absurd (omega arith)
+    go zero (suc (suc s)) lj ls e = absurd (omega arith)
+    go (suc zero) (suc (suc s)) lj ls e = absurd (omega arith)
+    go (suc (suc j)) s lj ls e = absurd (omega arith)
+
+pub second-row-not-first : FirstRow 5 2 1 (1 ∷ 1 ∷ []) 0 1 → ⊥
+unfolding padded rowBytes
+second-row-not-first a = clash refl (a .none-earlier 0 0 (omega arith) (omega arith) (sooner-row refl (omega arith)))
+
+pub clear-row-not-first : FirstRow 5 1 1 (8 ∷ []) 0 0 → ⊥
+unfolding padded rowBytes
+clear-row-not-first a = clash (a .bad) refl
+
+-- What a refusal tells: its row where it is 7, the first, and nothing where it has no place
+abbrev narrow : Settings
+narrow = record { w = 5; h = 2; n = 1; pitch = record { 0 = 100 }; overhang = record { 0 = 0 } }
+
+pub no-row-told : Tells (7 ∷ []) ((7 when true) ∷ []) narrow (1 ∷ 1 ∷ []) [] → ⊥
+no-row-told t = let e : _≡_ {A = ℕ} 1 3 = t .with-row (inl (here refl)) in omega arith
+
+pub second-row-told : Tells (7 ∷ 0 ∷ 1 ∷ []) ((7 when true) ∷ []) narrow (1 ∷ 1 ∷ []) [] → ⊥
+second-row-told t = second-row-not-first (t .part-row 0 1 .0 refl .1)
+
+pub part-row-told : Tells (8 ∷ 0 ∷ 0 ∷ []) ((8 when true) ∷ []) narrow (1 ∷ 1 ∷ []) (0 ∷ 1 ∷ []) → ⊥
+unfolding padded rowBytes
+part-row-told t = clash (t .support-row 0 0 .0 refl .1 .bad) refl
+
+pub more-told : Tells (12 ∷ 5 ∷ []) ((12 when true) ∷ []) narrow [] [] → ⊥
+more-told t = let e : _≡_ {A = ℕ} 2 1 = ap length (t .alone 11 (here refl) (λ z. omega arith) (λ z. omega arith)) in omega arith
 
 -- Joined and excused ------------------------------------------------------------------------------------------------------------
 

@@ -51,8 +51,8 @@ add-if2 c =
     let rb = c .before .before .before .before .row-bytes in
     let L = c .before .loop in
     let P = c .before .before .before .before .before .before .pre in
-    let in-s = last-in (A .w) (A .k) (L .row) (rb .result) _ _ (P .0) (rb .ensures .0) refl (c .loop-test .taken) (P .1 .1) in
-    omega (arith, in-s)
+    let here = last-in (A .w) (A .k) (L .row) (rb .result) _ _ (P .0) (rb .ensures .0) refl (c .loop-test .taken) (P .1 .1) in
+    omega (arith, here)
 
 shared-slice-read-if2 : tie.Need-shared-slice-read-if2 Inv-loop μ-loop
 shared-slice-read-if2 c =
