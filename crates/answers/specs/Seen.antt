@@ -1,12 +1,13 @@
--- What a C caller sees of each answer, taken apart as include/kitegimlet.h does it, is what the call says: no two answers look the same.
+-- What a C caller sees of each answer, taken apart as include/kitegimlet.h does it, is what the call says, and nothing stands above it: no two answers look the
+-- same.
 use mathlib.Core.Path.{_≡_, refl, sym, ap, _∙_}
 use mathlib.Core.Bool.{Bool, true, false, not, _&&_, _||_, cond}
 use mathlib.Core.List.{List, [], _∷_, _++_, append-nil}
-use Prim.Native.Nat.{ℕ, zero, suc, _+_, _-_, _*_, _/_, _%_, _≤_, _<_}
-use native.Mathlib.Nat.{mod-eq-of-lt, zero-mul, min-le-right}
+use Prim.Native.Nat.{ℕ, zero, suc, _+_, _-_, _*_, _/_, _%_, _^_, _≤_, _<_}
+use native.Mathlib.Nat.{div-eq-of-lt, mod-eq-of-lt, zero-mul, min-le-right}
 use native.Mathlib.Omega.{arith}
 use lib.Arith.{digits-div, digits-mod}
-use lib.Dec.{leb, ltb, eqb}
+use lib.Dec.{leb, eqb}
 use lib.ListN.{length, getD, take, drop, length-take, drop-of-length-le}
 use lib.Seq.{take-at, drop-at}
 use borrow.Author.Tests.{ne-eqb, eqb-true, eqb-false, leb-true, leb-false}
@@ -34,7 +35,7 @@ use Rattle.rules.specs.declared.Planned.the-variants.{Done, Refused as NotPlann
 use Rattle.rules.specs.declared.Judged.{Judged}
 use Rattle.rules.specs.declared.Judged.the-variants.{Refused as NotJudged}
 use Rattle.rules.specs.declared.ReadJob.the-variants.{Job as IsJob, Refused as NotRead}
-use Rattle.rules.specs.declared.CopiedRings.the-variants.{Copied, Refused as NotCopied}
+use Rattle.rules.specs.declared.CopiedRings.the-variants.{Copied}
 use Rattle.rules.specs.declared.WrittenJob.the-variants.{Length, Refused as NotWritten}
 use Rattle.laws.specs.Tests.{split, and-l, and-r}
 use Rattle.laws.specs.Refusals.{upTo, at-most, lacks, never, answer-refused}
@@ -74,9 +75,13 @@ long s = s % 4294967296
 unfoldable pub placeParts : ℕ → ℕ
 placeParts k = cond (eqb k 7 || eqb k 8) 2 (cond (eqb k 9 || eqb k 10 || eqb k 11 || eqb k 19) 3 0)
 
--- the place, as many parts as it has
+-- what stands above the number and the parts of its place: nothing, or else it is seen too
+unfoldable pub seesAbove : ℕ → List ℕ
+seesAbove x = cond (eqb x 0) [] (x ∷ [])
+
+-- the place, as many parts as it has, and what stands above it
 unfoldable pub seesParts : ℕ → List ℕ
-seesParts a = take (placeParts (number a)) (layer a ∷ row a ∷ column a ∷ [])
+seesParts a = take (placeParts (number a)) (layer a ∷ row a ∷ column a ∷ []) ++ seesAbove (a / 65536 ^ suc (placeParts (number a)))
 
 -- a number, and its place
 unfoldable pub seesPlace : ℕ → List ℕ
@@ -140,19 +145,21 @@ data Fits : Refusal → Type 0 where
   at-pixel : (k : ℕ) (at : Place) → k < 65536 → placeParts k ≡ 3 → at .layer < 65536 → at .row < 65536 → at .column < 65536 → Fits (AtPixel k at)
 
 -- what is seen of it, number and place
-seen-parts : (x k i r c n : ℕ) (e : x ≡ k + i * 65536 + r * 4294967296 + c * 281474976710656) → k < 65536 → i < 65536 → r < 65536 → c < 65536 → placeParts k ≡ n →
+seen-parts : (x k i r c n : ℕ) (e : x ≡ k + i * 65536 + r * 4294967296 + c * 281474976710656) → k < 65536 → i < 65536 → r < 65536 → c < 65536 → placeParts k ≡ n → x < 65536 ^ suc n →
     (number x ≡ k) × (seesParts x ≡ take n (i ∷ r ∷ c ∷ []))
-unfolding seesParts
-seen-parts x k i r c n e hk hi hr hc p =
-    (number-is x k i r c e hk hi hr hc, rw (number-is x k i r c e hk hi hr hc, layer-is x k i r c e hk hi hr hc, row-is x k i r c e hk hi hr hc, column-is x k i r c e hk hi hr hc, p))
+unfolding seesParts seesAbove
+seen-parts x k i r c n e hk hi hr hc p h =
+    let a = number-is x k i r c e hk hi hr hc in
+    let z : x / 65536 ^ suc n ≡ 0 = div-eq-of-lt h in
+    (a, rw (a, layer-is x k i r c e hk hi hr hc, row-is x k i r c e hk hi hr hc, column-is x k i r c e hk hi hr hc, p, z) (append-nil (take n (i ∷ r ∷ c ∷ []))))
 
 refusal-seen : {v : Refusal} → Fits v → (number (packRefusal v) ∷ seesParts (packRefusal v)) ≡ saysRefusal v
-refusal-seen (alone k h p) = let (a, b) = seen-parts k k 0 0 0 0 (omega arith) h (omega arith) (omega arith) (omega arith) p in rw (a, b)
+refusal-seen (alone k h p) = let (a, b) = seen-parts k k 0 0 0 0 (omega arith) h (omega arith) (omega arith) (omega arith) p (omega arith) in rw (a, b)
 refusal-seen (in-row k at h p hi hr) =
-    let (a, b) = seen-parts (packRefusal (InRow k at)) k (at .layer) (at .row) 0 2 (omega (arith, mod-eq-of-lt hi, mod-eq-of-lt hr)) h hi hr (omega arith) p in
+    let (a, b) = seen-parts (packRefusal (InRow k at)) k (at .layer) (at .row) 0 2 (omega (arith, mod-eq-of-lt hi, mod-eq-of-lt hr)) h hi hr (omega arith) p (omega (arith, mod-eq-of-lt hi, mod-eq-of-lt hr)) in
     rw (a, b)
 refusal-seen (at-pixel k at h p hi hr hc) =
-    let (a, b) = seen-parts (packRefusal (AtPixel k at)) k (at .layer) (at .row) (at .column) 3 (omega (arith, mod-eq-of-lt hi, mod-eq-of-lt hr, mod-eq-of-lt hc)) h hi hr hc p in
+    let (a, b) = seen-parts (packRefusal (AtPixel k at)) k (at .layer) (at .row) (at .column) 3 (omega (arith, mod-eq-of-lt hi, mod-eq-of-lt hr, mod-eq-of-lt hc)) h hi hr hc p (omega (arith, mod-eq-of-lt hi, mod-eq-of-lt hr, mod-eq-of-lt hc)) in
     rw (a, b)
 
 -- a table's numbers are 7, 8 or without a place
@@ -237,7 +244,7 @@ module _ (cs : List Case) (o : ordinary cs ≡ true) (s : Settings) (part sup : 
 
   -- a call that answers done or a refusal, and one that answers a value or a refusal
   place-seen : seesPlace (packed 0 (refusal cs)) ≡ said (0 ∷ []) (refusal cs)
-  unfolding seesPlace seesParts placeParts
+  unfolding seesPlace seesParts seesAbove placeParts
   place-seen = go (refusal cs) refl
     where
       go : (x : ℕ) → refusal cs ≡ x → seesPlace (packed 0 x) ≡ said (0 ∷ []) x
@@ -275,7 +282,7 @@ reach-seen p t = go (refusal (reachCases p t)) refl (at-most 3 (reachCases p t) 
         seesValue (packReached (answer x (By (reachOf p t)) NotReached)) ≡ saysReached (answer x (By (reachOf p t)) NotReached)
     go zero e h = let r = settable-out p t e in let m = r .reach-high in value-back (reachOf p t .0) (omega arith)
     go (suc x) e h =
-        let (a, b) = seen-parts (suc x) (suc x) 0 0 0 0 (omega arith) (omega arith) (omega arith) (omega arith) (omega arith) (small-alone x h) in
+        let (a, b) = seen-parts (suc x) (suc x) 0 0 0 0 (omega arith) (omega arith) (omega arith) (omega arith) (omega arith) (small-alone x h) (omega arith) in
         rw (a, ne-eqb (suc x) 0 (λ z. omega arith), b)
 
 pub write-seen : (j : Job) (room : ℕ) → seesValue (packWritten (writeAnswer j room)) ≡ saysWritten (writeAnswer j room)
@@ -349,7 +356,7 @@ module _ (s : Settings) (part sup l : List ℕ) where
       pixel-back (s .w) (s .h) (s .n - 1) 1 k (unheld P T R) at (r .w-high) (r .h-high) (omega arith) (omega arith) h p a
 
   verdict-back : {v : Judged} → Ranged s → Verdict v → verdictOf (s .w) (s .h) (s .n) (boundOf s) part sup l ≡ v → seesPlace (packJudged v) ≡ saysJudged v
-  unfolding verdictOf seesPlace seesParts placeParts
+  unfolding verdictOf seesPlace seesParts seesAbove placeParts
   verdict-back r accepted e = refl
   verdict-back r (overlapping at) e =
       let a = told-overlap (s .w) (s .h) (s .n) (boundOf s) P T R at .0 e in
@@ -470,6 +477,10 @@ module _ (f : List ℕ) where
       go zero e = stored (eqb (storedIn f) 0) refl e
       go (suc x) e = nothing-seen
 
+-- "No two answers look the same to a C caller": two calls that give the same number, whatever they were lent, say the same
+pub look-alike : {a b : ℕ} {x y : List ℕ} (sees : ℕ → List ℕ) → sees a ≡ x → sees b ≡ y → a ≡ b → x ≡ y
+look-alike sees ea eb e = sym ea ∙ ap sees e ∙ eb
+
 -- Ends of the ranges, computed: the last pixel of the largest stack and layer 256, its last row, the longest job, the largest reach, a number alone
 pub ends-seen :
     seesPlace (packJudged (NotJudged (AtPixel 11 (record { layer = 511; row = 255; column = 255 }))))
@@ -484,5 +495,5 @@ pub ends-seen :
     ∷ []
     ≡ (11 ∷ 511 ∷ 255 ∷ 255 ∷ []) ∷ (19 ∷ 511 ∷ 255 ∷ 255 ∷ []) ∷ (9 ∷ 256 ∷ 0 ∷ 0 ∷ []) ∷ (8 ∷ 511 ∷ 255 ∷ []) ∷ (7 ∷ 256 ∷ 0 ∷ []) ∷ (7 ∷ 1 ∷ 2 ∷ []) ∷ (0 ∷ 75366426 ∷ [])
     ∷ (0 ∷ 32 ∷ []) ∷ (18 ∷ []) ∷ []
-unfolding seesPlace seesValue seesParts placeParts
+unfolding seesPlace seesValue seesParts seesAbove placeParts
 ends-seen = refl

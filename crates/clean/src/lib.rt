@@ -57,7 +57,7 @@ pub fn clean(
 {
     let k = refusal(s, c, part.len(), clean.len());
     if k != 0 {
-        return Planned::Refused(limits::stack_refused(k, s, part));
+        return Planned::Refused(limits::with_part_row(k, s, part));
     }
     match plan(s, part, support, rings) {
         Planned::Refused(r) => Planned::Refused(r),

@@ -5,17 +5,16 @@ use mathlib.Core.List.{List}
 use Prim.Native.Nat.{ℕ, zero, suc, _+_, _-_, _*_, _/_, _%_, _^_, _<_, _≤_}
 use native.Mathlib.Nat.{zero-add, one-mul, mul-assoc, mod-lt, mod-eq-of-lt, div-one, div-add-mod', div-eq-of-lt, pow-suc, div-div-eq-div-mul, mul-le-mul-right}
 use native.Mathlib.Omega.{arith}
-use native.Mathlib.Numerals.{add-one}
 use borrow.Author.Tests.{eqb-true, eqb-false, ltb-true, ltb-false}
 use lib.Arith.{digits-lt, digits-div, digits-mod}
 use lib.Dec.{ltb, eqb}
 use lib.ListN.{length, getD, drop, length-take, length-drop}
-use lib.Pow.{field, mod-mod-pow, pow-pos}
 use lib.Seq.{ext-getD, getD-take, getD-drop}
 use Rattle.rules.specs.Images.{Plane, Stack, rowBytes, bitAt, pixel, padded, paddingSet, byteOf, bytesOf}
 use Rattle.rules.specs.Tools.{bit, each}
 use Rattle.laws.specs.Places.{digits-in}
 use Rattle.laws.specs.Tests.{split, clash, not-in, some-in, getD-each, length-each}
+use Rattle.laws.specs.BytePixels.{low-zero}
 use Rattle.image.specs.Rows.{packed, planeBytes, Clean, plane}
 use Rattle.image.specs.Scratch.{bitOf}
 
@@ -25,12 +24,6 @@ unfolding bit
 bit-number zero l = refl
 bit-number (suc zero) l = refl
 bit-number (suc (suc y)) l = absurd (omega arith)
-
--- the low bits are 0: so is each of them
-low-zero : (x d f : ℕ) → x % 2 ^ (suc f + d) ≡ 0 → x / 2 ^ d % 2 ≡ 0
-low-zero x d f e =
-    let z : x / 2 ^ d % 2 ^ (f + 1) ≡ 0 = sym (field x (f + 1) d) ∙ rw (add-one f, e) (div-eq-of-lt (pow-pos d)) in
-    sym (mod-mod-pow (x / 2 ^ d) f 1) ∙ rw z
 
 -- bit c of a row that starts at byte x
 pub row-bit : (s : List ℕ) (x c : ℕ) → bitOf s (x * 8 + c) ≡ bitAt (getD s (x + c / 8) 0) (c % 8)

@@ -4,7 +4,7 @@ pub mod writing;
 use crate::writing::put_job;
 use crate::writing::stored_rows;
 use crate::writing::write_refusal;
-use limits::both_refused;
+use limits::with_rows;
 use rules::CopiedRings;
 use rules::ReadJob;
 use rules::Settings;
@@ -14,10 +14,10 @@ use sections::reading::copy_refusal;
 use sections::reading::layout;
 use sections::reading::part_in;
 use sections::reading::read_refusal;
-use sections::reading::refused_in;
 use sections::reading::settings_in;
 use sections::reading::stored_in;
 use sections::reading::support_in;
+use sections::reading::with_rows_in;
 use sections::sizes::job_end;
 ghost use Rattle.rules.specs.Outcomes.{Reads, HandsPart, HandsSupport, Copies, Writes};
 
@@ -27,7 +27,7 @@ pub fn read(file: &[u8]) -> ReadJob
 {
     let k = read_refusal(file);
     if k != 0 {
-        return ReadJob::Refused(refused_in(file, k));
+        return ReadJob::Refused(with_rows_in(file, k));
     }
     ReadJob::Job(layout(file))
 }
@@ -61,7 +61,7 @@ pub fn copy_rings(file: &[u8], rings: &mut [u16]) -> CopiedRings
 {
     let k = copy_refusal(file, rings.len());
     if k != 0 {
-        return CopiedRings::Refused(refused_in(file, k));
+        return CopiedRings::Refused(with_rows_in(file, k));
     }
     let l = layout(file);
     let at = l.rings;
@@ -75,7 +75,7 @@ pub fn write(s: Settings, part: &[u8], support: &[u8], rings: &[u16], out: &mut 
 {
     let k = write_refusal(s, part, support, rings, out.len());
     if k != 0 {
-        return WrittenJob::Refused(both_refused(k, s, part, support));
+        return WrittenJob::Refused(with_rows(k, s, part, support));
     }
     put_job(out, s, part, support, rings);
     let c = stored_rows(s, support.len());

@@ -22,7 +22,7 @@ use Rattle.rules.specs.declared.Judged.the-variants.{Accepted, Refused}
 use Rattle.laws.specs.Refusals.{says-no, says-yes}
 use Rattle.laws.specs.Limits.{Ranged, ranged}
 use Rattle.laws.specs.StackTables.{Padded, both-exactly, both-seven, both-eight}
-use Rattle.laws.specs.Places.{digits-in, numberOf, flat-is}
+use Rattle.laws.specs.Places.{digits-in, flat-is}
 use Rattle.places.specs.Search.{FirstOf, flat, bitIn, Sized}
 use Rattle.places.specs.Finding.{least-found, least-nothing, least-none}
 use Rattle.quick.specs.Sureness.{Whole, Fine}

@@ -78,7 +78,7 @@ pub fn judge(s: Settings, part: &[u8], support: &[u8], rings: &[u16]) -> Judged
 {
     let a = limits::both_refusal(s, true, part, support, rings.len());
     if a != 0 {
-        return Judged::Refused(limits::both_refused(a, s, part, support));
+        return Judged::Refused(limits::with_rows(a, s, part, support));
     }
     verdict(s, part, support, rings)
 }

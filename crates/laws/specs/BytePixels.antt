@@ -25,7 +25,7 @@ bit-of (suc zero) l = refl
 bit-of (suc (suc y)) l = absurd (omega arith)
 
 -- the low e bits are 0: so is each of them
-low-zero : (x d f : ℕ) → x % 2 ^ (suc f + d) ≡ 0 → x / 2 ^ d % 2 ≡ 0
+pub low-zero : (x d f : ℕ) → x % 2 ^ (suc f + d) ≡ 0 → x / 2 ^ d % 2 ≡ 0
 low-zero x d f e =
     let z : x / 2 ^ d % 2 ^ (f + 1) ≡ 0 = sym (field x (f + 1) d) ∙ rw (add-one f, e) (div-eq-of-lt (pow-pos d)) in
     sym (mod-mod-pow (x / 2 ^ d) f 1) ∙ rw z

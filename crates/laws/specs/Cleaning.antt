@@ -10,7 +10,7 @@ use Rattle.rules.specs.Images.{Plane, Stack, pixel, ringAt}
 use Rattle.rules.specs.Reach.{boundOf}
 use Rattle.rules.specs.Planning.{excused, plannedRings, plannedBytes}
 use Rattle.rules.specs.Cleaning.{discOf, closed, cleanedBytes}
-use Rattle.rules.specs.Calls.{saysRefusal, refused, saysPlanned, saysJudged, planRefusal, planAnswer, planSupport, planRings, cleanRefusal, cleanAnswer, cleanSupport, cleanRings, cleanCleaned}
+use Rattle.rules.specs.Calls.{refused, saysPlanned, saysJudged, planRefusal, planAnswer, planSupport, planRings, cleanRefusal, cleanAnswer, cleanSupport, cleanRings, cleanCleaned}
 use Rattle.rules.specs.Outcomes.{Plans, Cleans, Judges}
 use Rattle.rules.specs.declared.Settings.{Settings}
 use Rattle.rules.specs.declared.Pixels.{Pixels}
@@ -44,15 +44,15 @@ module _ (s : Settings) (c : Pixels) (part sup ring clean : List ℕ) where
   clean-fills e =
       (ap saysPlanned (answer-fine r Done (λ k. Refused (refused s part [] k)) e), answer-fine r _ (λ k. sup) e, answer-fine r _ (λ k. ring) e, answer-fine r _ (λ k. clean) e)
 
-  -- refused: the number with its place, and all lent memory as it was found
+  -- refused: the number first (clean-tells of Demand1 has what follows it), and all lent memory as it was found
   pub clean-keeps : (r ≡ 0 → ⊥) →
-      (saysPlanned (cleanAnswer s c part (length sup) (length ring) (length clean)) ≡ saysRefusal (refused s part [] r))
+      (getD (saysPlanned (cleanAnswer s c part (length sup) (length ring) (length clean))) 0 0 ≡ r)
       × (cleanSupport s c part sup ring clean ≡ sup)
       × (cleanRings s c part sup ring clean ≡ ring)
       × (cleanCleaned s c part sup ring clean ≡ clean)
   unfolding cleanAnswer cleanSupport cleanRings cleanCleaned
   clean-keeps n =
-      (ap saysPlanned (answer-refused r Done (λ k. Refused (refused s part [] k)) n), answer-refused r _ (λ k. sup) n, answer-refused r _ (λ k. ring) n, answer-refused r _ (λ k. clean) n)
+      (ap (λ (a : Planned). getD (saysPlanned a) 0 0) (answer-refused r Done (λ k. Refused (refused s part [] k)) n) ∙ refused-number s part [] r, answer-refused r _ (λ k. sup) n, answer-refused r _ (λ k. ring) n, answer-refused r _ (λ k. clean) n)
 
   -- an answer of 0 is one that is not refused
   fine : (a : Planned) → a ≡ cleanAnswer s c part (length sup) (length ring) (length clean) → saysPlanned a ≡ 0 ∷ [] → r ≡ 0

@@ -308,12 +308,12 @@ module _ (w h n : ℕ) (q : ℕ → ℕ) (part sup : Stack) (ring : Rings) where
   )
 
   -- the number that an unheld pixel has at its place
-  abbrev numberAt : Place → ℕ
-  numberAt at = cond (part (at .layer) (at .row * w + at .column)) 11 19
+  abbrev unheldAt : Place → ℕ
+  unheldAt at = cond (part (at .layer) (at .row * w + at .column)) 11 19
 
-  number-at : (x : ℕ) → x < (n - 1) * (h * w) → unheldNumber part (x / (h * w)) (x % (h * w)) ≡ numberAt (placeOf w h 1 x)
+  unheld-at : (x : ℕ) → x < (n - 1) * (h * w) → unheldNumber part (x / (h * w)) (x % (h * w)) ≡ unheldAt (placeOf w h 1 x)
   unfolding unheldNumber
-  number-at x l = let (a, b) = told-pixel w h (n - 1) x l in rw (a, b)
+  unheld-at x l = let (a, b) = told-pixel w h (n - 1) x l in rw (a, b)
 
   -- a place that is found is that of a pixel
   found-below : (x : ℕ) → firstIn w h (n - 1) (unheld part sup ring) ≡ found x → x < (n - 1) * (h * w)
@@ -329,7 +329,7 @@ module _ (w h n : ℕ) (q : ℕ → ℕ) (part sup : Stack) (ring : Rings) where
 
   -- "and any bad ring before any unheld pixel": 11 or 19 at the first unheld pixel, and which of them by what it is
   pub told-unheld : (j : ℕ) (at : Place) → (9 ≡ j → ⊥) → (10 ≡ j → ⊥) → (judgement ≡ at-pixel j at) ↔
-      (Nowhere w h n (overlap part sup) × Nowhere w h (n - 1) (badRing w h q part ring) × FirstAt w h (n - 1) 1 (unheld part sup ring) at × (numberAt at ≡ j))
+      (Nowhere w h n (overlap part sup) × Nowhere w h (n - 1) (badRing w h q part ring) × FirstAt w h (n - 1) 1 (unheld part sup ring) at × (unheldAt at ≡ j))
   unfolding verdict tell
   told-unheld j at n9 n10 = (
     (λ e.
@@ -339,10 +339,10 @@ module _ (w h n : ℕ) (q : ℕ → ℕ) (part sup : Stack) (ring : Rings) where
           nowhere-out w h n (overlap part sup) o,
           nowhere-out w h (n - 1) (badRing w h q part ring) b,
           tells-exactly w h (n - 1) 1 (unheld part sup ring) at .0 (x, f, p),
-          ap numberAt p ∙ sym (number-at x (found-below x f)) ∙ k,
+          ap unheldAt p ∙ sym (unheld-at x (found-below x f)) ∙ k,
         )),
     (λ (none, good, a, k).
         let (x, e, p) = tells-exactly w h (n - 1) 1 (unheld part sup ring) at .1 a in
-        let m : unheldNumber part (x / (h * w)) (x % (h * w)) ≡ j = number-at x (found-below x e) ∙ ap numberAt (sym p) ∙ k in
+        let m : unheldNumber part (x / (h * w)) (x % (h * w)) ≡ j = unheld-at x (found-below x e) ∙ ap unheldAt (sym p) ∙ k in
         rw (nowhere-in w h n (overlap part sup) none, nowhere-in w h (n - 1) (badRing w h q part ring) good, e, m) (ap (at-pixel j) (sym p))),
   )

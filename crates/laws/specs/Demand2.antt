@@ -6,14 +6,16 @@ use mathlib.Core.Bool.{true, false}
 use mathlib.Core.List.{List, [], _∷_}
 use Prim.Native.Nat.{ℕ, zero, suc, _-_, _*_, _≤_, _<_}
 use native.Mathlib.Omega.{arith}
-use lib.ListN.{length}
+use lib.ListN.{length, getD}
 use Rattle.rules.specs.Images.{Plane, pixel, ringAt}
 use Rattle.rules.specs.Reach.{boundOf}
 use Rattle.rules.specs.Planning.{shadow, near, seeds, reached, touch, planned, empty, plannedRings, plannedBytes, swallowed, growingSwallow, regionSubtraction}
-use Rattle.rules.specs.Calls.{saysRefusal, refused, saysPlanned, planRefusal, planAnswer, planSupport, planRings}
+use Rattle.rules.specs.Calls.{refused, saysPlanned, planRefusal, planAnswer, planSupport, planRings}
 use Rattle.rules.specs.Demands.{JoinedBy, Excused}
 use Rattle.rules.specs.declared.Settings.{Settings}
+use Rattle.rules.specs.declared.Planned.{Planned}
 use Rattle.rules.specs.declared.Planned.the-variants.{Done, Refused}
+use Rattle.laws.specs.Padding.{refused-number}
 use Rattle.laws.specs.Refusals.{answer-fine, answer-refused}
 use Rattle.laws.specs.Soundness.{ringsOf, ringsOf-is, seed-barred, ring-iff, ringsOf-excused, ringsOf-fewest}
 use Rattle.laws.specs.PixelBytes.{pixel-bytes}
@@ -33,11 +35,11 @@ module _ (s : Settings) (part sup ring : List ℕ) where
   unfolding planAnswer planSupport planRings
   plan-fills e = (ap saysPlanned (answer-fine r Done (λ k. Refused (refused s part [] k)) e), answer-fine r _ (λ k. sup) e, answer-fine r _ (λ k. ring) e)
 
-  -- refused: the number with its place, and all lent memory as it was found
+  -- refused: the number first (plan-tells of Demand1 has what follows it), and all lent memory as it was found
   pub plan-keeps : (r ≡ 0 → ⊥) →
-      (saysPlanned (planAnswer s part (length sup) (length ring)) ≡ saysRefusal (refused s part [] r)) × (planSupport s part sup ring ≡ sup) × (planRings s part sup ring ≡ ring)
+      (getD (saysPlanned (planAnswer s part (length sup) (length ring))) 0 0 ≡ r) × (planSupport s part sup ring ≡ sup) × (planRings s part sup ring ≡ ring)
   unfolding planAnswer planSupport planRings
-  plan-keeps n = (ap saysPlanned (answer-refused r Done (λ k. Refused (refused s part [] k)) n), answer-refused r _ (λ k. sup) n, answer-refused r _ (λ k. ring) n)
+  plan-keeps n = (ap (λ (a : Planned). getD (saysPlanned a) 0 0) (answer-refused r Done (λ k. Refused (refused s part [] k)) n) ∙ refused-number s part [] r, answer-refused r _ (λ k. sup) n, answer-refused r _ (λ k. ring) n)
 
 -- The chapter's rules ------------------------------------------------------------------------------------------------------
 

@@ -1,7 +1,7 @@
 -- Demand 1 of the checking call itself: its numbers 1 to 8 exactly when its table gives them, and 9, 10, 11 and 19 at their first place and
 -- acceptance exactly when the table gives none. And the verdict against that of before, which told every unheld pixel as 11.
 use mathlib.Core.Path.{_≡_, refl, sym, ap, _∙_}
-use mathlib.Core.Logic.{_↔_, ⊎-elim}
+use mathlib.Core.Logic.{_↔_}
 use mathlib.Core.Bool.{Bool, true, false, _&&_, _||_, cond}
 use mathlib.Core.List.{List, [], _∷_}
 use Prim.Native.Nat.{ℕ, zero, suc, _+_, _-_, _*_, _/_, _%_, _≤_, _<_}
@@ -21,8 +21,8 @@ use Rattle.rules.specs.declared.Place.{Place}
 use Rattle.rules.specs.declared.Judged.{Judged}
 use Rattle.rules.specs.declared.Refusal.the-variants.{Number, InRow, AtPixel}
 use Rattle.rules.specs.declared.Judged.the-variants.{Accepted, Refused}
-use Rattle.laws.specs.Refusals.{given-exactly, none-exactly, numbered, upTo, at-most, answer-fine}
-use Rattle.laws.specs.Tests.{split, clash, and-l, or-out}
+use Rattle.laws.specs.Refusals.{none-exactly, numbered, upTo, at-most, answer-fine}
+use Rattle.laws.specs.Tests.{split, and-l}
 use Rattle.laws.specs.Padding.{refused-number, number-exactly, tells}
 use Rattle.laws.specs.StackTables.{both-seven, both-eight}
 use Rattle.laws.specs.Demand1.{told-overlap, told-bad-ring, told-unheld}
@@ -52,7 +52,7 @@ unfolding verdict verdictOf
 verdict-is w h n q part sup l = by-finds w h (pixel w h part) _ _ _
 
 -- a verdict says 0 alone, or a number over 8 with a pixel
-pub data Says : List ℕ → Type 0 where
+data Says : List ℕ → Type 0 where
   zero-alone : Says (0 ∷ [])
   with-pixel : (k i r c : ℕ) → 9 ≤ k → Says (k ∷ i ∷ r ∷ c ∷ [])
 
@@ -71,10 +71,6 @@ no-number k (with-pixel j i r c g) h e = omega arith
 judge-numbered : (s : Settings) (part sup : List ℕ) (k : ℕ) → numbered (judgeCases s part sup k) ≡ true
 unfolding judgeCases bothCases stackCases settingCases reachCases lengthCases numbered
 judge-numbered s part sup k = refl
-
-eight : (s : Settings) (part sup : List ℕ) (k : ℕ) → refusal (judgeCases s part sup k) ≤ 8
-unfolding judgeCases bothCases stackCases settingCases reachCases lengthCases upTo
-eight s part sup k = at-most 8 (judgeCases s part sup k) refl
 
 -- what an answer says is what it is
 says-place : (v : Judged) (k i r c : ℕ) → saysJudged v ≡ k ∷ i ∷ r ∷ c ∷ [] → v ≡ Refused (AtPixel k (record { layer = i; row = r; column = c }))
@@ -123,6 +119,19 @@ module _ (s : Settings) (part sup l : List ℕ) where
   pub judge-refuses : (k : ℕ) → suc k ≤ 8 → (getD (saysJudged (judgeAnswer s part sup l)) 0 0 ≡ suc k) ↔ Given (suc k) table
   unfolding judgeAnswer
   judge-refuses k h = number-exactly saysJudged found-out Refused (λ j. refl) table s part sup k (verdict-above k h)
+
+  -- and any other number comes with a pixel
+  pub judge-with-pixel : (k : ℕ) → 9 ≤ k → getD (saysJudged (judgeAnswer s part sup l)) 0 0 ≡ k → length (saysJudged (judgeAnswer s part sup l)) ≡ 4
+  unfolding judgeAnswer judgeCases bothCases stackCases settingCases reachCases lengthCases upTo
+  judge-with-pixel k h e = go (refusal table) (at-most 8 table refl) e
+    where
+      pixel-said : {m : List ℕ} → Says m → getD m 0 0 ≡ k → length m ≡ 4
+      pixel-said zero-alone z = absurd (omega arith)
+      pixel-said (with-pixel j i r c g) z = refl
+
+      go : (x : ℕ) → x ≤ 8 → getD (saysJudged (answer x found-out no)) 0 0 ≡ k → length (saysJudged (answer x found-out no)) ≡ 4
+      go zero u z = pixel-said (verdict-says (verdict-is (s .w) (s .h) (s .n) (boundOf s) part sup l)) z
+      go (suc x) u z = absurd (omega (arith, refused-number s part sup (suc x)))
 
   pub judge-tells : Tells (saysJudged (judgeAnswer s part sup l)) table s part sup
   unfolding judgeAnswer judgeCases
@@ -192,7 +201,7 @@ module _ (s : Settings) (part sup l : List ℕ) where
       ((λ e. let (n, v) = t .0 e in (n, o .0 v)), (λ (n, a). t .1 (n, o .1 a)))
 
   -- 11 and 19: the first unheld pixel, where no pixel overlaps and no ring is bad, and the number is read off there
-  judge-unheld : (k i r c : ℕ) → (9 ≡ k → ⊥) → (10 ≡ k → ⊥) → (saysJudged (judgeAnswer s part sup l) ≡ k ∷ i ∷ r ∷ c ∷ []) ↔
+  pub judge-unheld : (k i r c : ℕ) → (9 ≡ k → ⊥) → (10 ≡ k → ⊥) → (saysJudged (judgeAnswer s part sup l) ≡ k ∷ i ∷ r ∷ c ∷ []) ↔
       (NoneGiven table
       × (Nowhere (s .w) (s .h) (s .n) overlaps × Nowhere (s .w) (s .h) (s .n - 1) bad-rings × FirstAt (s .w) (s .h) (s .n - 1) 1 unheld-ones (record { layer = i; row = r; column = c })
       × (cond (P i (r * s .w + c)) 11 19 ≡ k)))

@@ -3,15 +3,17 @@ use mathlib.Core.Path.{_≡_, refl, sym, ap, subst, _∙_}
 use mathlib.Core.Logic.{_↔_, ⊎-elim}
 use mathlib.Core.Bool.{true, false}
 use mathlib.Core.List.{List, [], _∷_}
-use Prim.Native.Nat.{ℕ, zero, suc, _+_, _-_, _*_, _/_, _%_, _^_, _<_}
-use native.Mathlib.Nat.{div-add-mod', mul-one, zero-mod}
+use Prim.Native.Nat.{ℕ, zero, suc, _+_, _-_, _*_, _/_, _%_, _^_, _≤_, _<_}
+use native.Mathlib.Nat.{div-add-mod', mul-one, zero-mod, mod-one, mod-lt, zero-mul, zero-add}
+use native.Mathlib.Numerals.{one-add}
+use lib.Pow.{mod-pow-add}
 use native.Mathlib.Omega.{arith}
 use lib.Arith.{digits-lt, digits-div, digits-mod}
 use lib.Dec.{eqb}
 use lib.ListN.{length, getD}
-use borrow.Author.Tests.{ne-eqb}
+use borrow.Author.Tests.{eq-eqb, ne-eqb, eqb-true, eqb-false}
 use Rattle.rules.specs.Tools.{Found, nothing, found, first, Case, refusal, answer}
-use Rattle.rules.specs.Images.{rowBytes, rowsOf, padded, paddingSet, firstPadded}
+use Rattle.rules.specs.Images.{rowBytes, bitAt, rowsOf, padded, paddingSet, firstPadded}
 use Rattle.rules.specs.Calls.{saysRefusal, tellRow, refused}
 use Rattle.rules.specs.Demands.{Given, FirstRow, Tells}
 use Rattle.rules.specs.declared.Settings.{Settings}
@@ -19,7 +21,51 @@ use Rattle.rules.specs.declared.Refusal.{Refusal}
 use Rattle.rules.specs.declared.Refusal.the-variants.{Number}
 use Rattle.laws.specs.Tests.{split, clash, some-out}
 use Rattle.laws.specs.Refusals.{given-exactly}
+use Rattle.laws.specs.BytePixels.{low-zero}
 use Rattle.laws.specs.Places.{First, none-is, one-is, first-is, first-unique, digits-in, numberOf, earlier-less, less-earlier}
+
+-- What padding is ----------------------------------------------------------------------------------------------------------------
+
+-- a number whose low bits are not all 0 has one that is set
+low-some : (x p : ℕ) → (x % 2 ^ p ≡ 0 → ⊥) → (d : ℕ) × (d < p) × (x / 2 ^ d % 2 ≡ 1)
+low-some x zero n = absurd (n (mod-one x))
+low-some x (suc p) n =
+    split (eqb (x / 2 ^ p % 2) 1)
+    (λ t. (p, omega arith, eqb-true (x / 2 ^ p % 2) 1 t))
+    (λ t.
+    let z : x / 2 ^ p % 2 ≡ 0 = omega (arith, let l : x / 2 ^ p % 2 < 2 = mod-lt (x / 2 ^ p) (omega arith) in l, eqb-false (x / 2 ^ p % 2) 1 t) in
+    let e : x % 2 ^ (1 + p) ≡ x / 2 ^ p % 2 ^ 1 * 2 ^ p + x % 2 ^ p = mod-pow-add x 1 p in
+    let f : x % 2 ^ suc p ≡ x % 2 ^ p = ap (λ (k : ℕ). x % 2 ^ k) (sym (one-add p)) ∙ e ∙ rw (z, zero-mul (2 ^ p), zero-add (x % 2 ^ p)) in
+    let (d, l, b) = low-some x p (λ y. n (f ∙ y)) in
+    (d, omega arith, b))
+
+-- Rule 1.4: a row has padding set exactly where a bit of it is set that stands behind its last column
+pub padded-exactly : (w : ℕ) (l : List ℕ) (row : ℕ) → 0 < w →
+    (padded w l row ≡ true) ↔ ((c : ℕ) × (w ≤ c) × (c < rowBytes w * 8) × (bitAt (getD l (row * rowBytes w + c / 8) 0) (c % 8) ≡ true))
+unfolding padded rowBytes bitAt
+padded-exactly w l row lw = (
+  (λ e.
+      let (d, ld, b) = low-some x pad (λ z. clash e (rw (eq-eqb (x % 2 ^ pad) 0 z))) in
+      let c : ℕ = rowBytes w * 8 - 1 - d in
+      let q : c / 8 ≡ rowBytes w - 1 = omega arith in
+      let m : 7 - c % 8 ≡ d = omega arith in
+      (c, omega arith, omega arith, rw (q, m) (eq-eqb (x / 2 ^ d % 2) 1 b))),
+  (λ (c, lc, hc, b).
+      let q : c / 8 ≡ rowBytes w - 1 = omega arith in
+      let d : ℕ = 7 - c % 8 in
+      let f : ℕ = pad - suc d in
+      let s : suc f + d ≡ pad = omega arith in
+      let b1 : x / 2 ^ d % 2 ≡ 1 = eqb-true (x / 2 ^ d % 2) 1 (rw q at b) in
+      split (eqb (x % 2 ^ pad) 0)
+      (λ t. absurd (let z : x / 2 ^ d % 2 ≡ 0 = low-zero x d f (rw s (eqb-true (x % 2 ^ pad) 0 t)) in omega arith))
+      (λ t. rw t)),
+)
+  where
+    x : ℕ
+    x = getD l (row * rowBytes w + (rowBytes w - 1)) 0
+
+    pad : ℕ
+    pad = 8 * rowBytes w - w
 
 -- The first row ---------------------------------------------------------------------------------------------------------------
 

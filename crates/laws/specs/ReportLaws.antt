@@ -15,8 +15,8 @@ use Rattle.rules.specs.Planning.{shadow, near, seeds, reached, touch, source, t
 use Rattle.rules.specs.Planning.{planned, empty, plannedRings, plannedBytes}
 use Rattle.rules.specs.Jobs.{headEnd, partEnd, supportCount, supportEnd, ringCount, jobEnd, settingsIn, storedIn, partIn, supportIn}
 use Rattle.rules.specs.Calls.{saysRefusal, reachCases, settingCases, sectionCases, readCases, readRefusal, refused, refusedIn}
-use Rattle.rules.specs.Report.{digits, decimal, spaced, newline, allSpaced, refusedLine, jobLine, filled, excusedAbove, layerLine, planLines, reportCases, reportOf}
-use Rattle.rules.specs.Demands.{Given, Tells}
+use Rattle.rules.specs.Report.{digits, decimal, spaced, newline, allSpaced, refusedLine, jobLine, filled, excusedAbove, layerLine, planLines, reportCases, reportOf, textOf}
+use Rattle.rules.specs.Demands.{Given, FirstRow, Tells}
 use Rattle.rules.specs.declared.Settings.{Settings}
 use Rattle.laws.specs.Tests.{split}
 use Rattle.laws.specs.Refusals.{refusal-append, else-both, else-first, case-out, case-passes, read-numbered}
@@ -216,10 +216,9 @@ module _ (f : List ℕ) where
       back zero e = absurd (let z : _≡_ {A = ℕ} 0 (suc k) = cc in omega arith)
       back (suc x) e = ap refusedLine e
 
-  -- "Other refusals print `refused` and the number": a number is printed exactly when the program's table gives it
-  pub report-exactly : (k : ℕ) → (getD reportSays 0 0 ≡ suc k) ↔ Given (suc k) (reportCases f)
+  said-number : (k : ℕ) → (getD reportSays 0 0 ≡ suc k) ↔ Given (suc k) (reportCases f)
   unfolding refusedIn
-  report-exactly k = number-exactly (λ l. l) (0 ∷ []) saysRefusal (λ j. refl) (reportCases f) (settingsIn f) (partIn f) (supportIn f) k (λ e. omega arith)
+  said-number k = number-exactly (λ l. l) (0 ∷ []) saysRefusal (λ j. refl) (reportCases f) (settingsIn f) (partIn f) (supportIn f) k (λ e. omega arith)
 
   -- 7 and 8 of the program are those of reading
   pub reported-as-read : (k : ℕ) → (17 ≡ suc k → ⊥) → refusal (reportCases f) ≡ suc k → readRefusal f ≡ suc k
@@ -240,11 +239,30 @@ module _ (f : List ℕ) where
       (λ e. read-seven f (reported-as-read 6 (λ z. omega arith) e) .1 .set)
       (λ e. read-eight f (reported-as-read 7 (λ z. omega arith) e) .1 .set)
 
+  -- "Other refusals print `refused` and the number": a number without a place is printed exactly when the program's table gives it
+  pub report-exactly : (k : ℕ) → (suc k ≡ 7 → ⊥) → (suc k ≡ 8 → ⊥) → (reportOf f ≡ refusedLine (suc k ∷ [])) ↔ Given (suc k) (reportCases f)
+  report-exactly k n7 n8 =
+      let line = report-line k [] in
+      ((λ e. said-number k .0 (ap (λ (l : List ℕ). getD l 0 0) (line .0 e))), (λ g. line .1 (report-tells .alone k g n7 n8)))
+
+  -- `refused 7 1 0` and its like: 7 is printed with the first row of the part whose padding is set, and 8 with that of the support
+  pub report-part-row : (i r : ℕ) → (reportOf f ≡ refusedLine (7 ∷ i ∷ r ∷ [])) ↔ (Given 7 (reportCases f) × FirstRow (settingsIn f .w) (settingsIn f .h) (settingsIn f .n) (partIn f) i r)
+  report-part-row i r =
+      let line = report-line 6 (i ∷ r ∷ []) in
+      let row = report-tells .part-row i r in
+      ((λ e. row .0 (line .0 e)), (λ g. line .1 (row .1 g)))
+
+  pub report-support-row : (i r : ℕ) → (reportOf f ≡ refusedLine (8 ∷ i ∷ r ∷ [])) ↔ (Given 8 (reportCases f) × FirstRow (settingsIn f .w) (settingsIn f .h) (settingsIn f .n) (supportIn f) i r)
+  report-support-row i r =
+      let line = report-line 7 (i ∷ r ∷ []) in
+      let row = report-tells .support-row i r in
+      ((λ e. row .0 (line .0 e)), (λ g. line .1 (row .1 g)))
+
 pub take-all : (n : ℕ) (l : List ℕ) → length l ≤ n → take n l ≡ l
 take-all n l h = sym (append-nil (take n l)) ∙ ap (λ (x : List ℕ). take n l ++ x) (sym (drop-of-length-le l h)) ∙ take-append-drop n l
 
 -- the program reads 65,536 bytes and asks whether there are more: what it then prints is the report of the whole input
-pub report-whole : (f : List ℕ) → cond (ltb 65536 (length f)) (refusedLine (17 ∷ [])) (reportOf (take 65536 f)) ≡ reportOf f
+pub report-whole : (f : List ℕ) → textOf (take 65536 f) (ltb 65536 (length f)) ≡ reportOf f
 report-whole f =
     split (ltb 65536 (length f))
     (λ t. rw t (sym (report-too-long f (ltb-true 65536 (length f) t))))

@@ -243,7 +243,7 @@ pub fn both_refusal(s: Settings, stored: bool, part: &[u8], support: &[u8], ring
 }
 
 // A refusal with the first row of a stack whose padding is set.
-pub fn row_refused(k: u8, s: Settings, stack: &[u8]) -> Refusal
+pub fn with_first_row(k: u8, s: Settings, stack: &[u8]) -> Refusal
     requires { ⌜ Padded s (now stack) ⌝ }
     ensures { λ r. ⌜ r ≡ tellRow (s .h) k (firstPadded s (now (stack .entry))) ⌝ }
 {
@@ -259,23 +259,23 @@ pub fn row_refused(k: u8, s: Settings, stack: &[u8]) -> Refusal
 }
 
 // The refusal by a number of 1 to 7 of a stack. Its row is looked for only here, so that a call that refuses nothing pays nothing for it.
-pub fn stack_refused(k: u8, s: Settings, part: &[u8]) -> Refusal
+pub fn with_part_row(k: u8, s: Settings, part: &[u8]) -> Refusal
     requires { ⌜ (k ≡ 7 → Padded s (now part)) ⌝ }
     ensures { λ r. ⌜ r ≡ refused s (now (part .entry)) [] k ⌝ }
 {
     if k == 7 {
-        return row_refused(k, s, part);
+        return with_first_row(k, s, part);
     }
     Refusal::Number(k)
 }
 
 // The refusal by a number of 1 to 8 of a stack with its support.
-pub fn both_refused(k: u8, s: Settings, part: &[u8], support: &[u8]) -> Refusal
+pub fn with_rows(k: u8, s: Settings, part: &[u8], support: &[u8]) -> Refusal
     requires { ⌜ (k ≡ 7 → Padded s (now part)) × (k ≡ 8 → Padded s (now support)) ⌝ }
     ensures { λ r. ⌜ r ≡ refused s (now (part .entry)) (now (support .entry)) k ⌝ }
 {
     if k == 8 {
-        return row_refused(k, s, support);
+        return with_first_row(k, s, support);
     }
-    stack_refused(k, s, part)
+    with_part_row(k, s, part)
 }

@@ -11,7 +11,7 @@ pub fn plan(s: Settings, part: &[u8], support: &mut [u8], rings: &mut [u16]) -> 
 {
     let k = limits::stack_refusal(s, true, part, support.len(), rings.len());
     if k != 0 {
-        return Planned::Refused(limits::stack_refused(k, s, part));
+        return Planned::Refused(limits::with_part_row(k, s, part));
     }
     let q = limits::bound_of(s);
     let rb = limits::row_bytes(s.w);

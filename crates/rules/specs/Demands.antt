@@ -42,13 +42,13 @@ pub record FirstAt (w h n up : ℕ) (f : Stack) (at : Place) : Type 0 where
   pub passes : f i (r * w + c) ≡ true
   pub none-earlier : (j s d : ℕ) → j < n → s < h → d < w → Earlier j s d i r c → f j (s * w + d) ≡ false
 
--- "the first bad padding": row r of layer i has padding set, and no row of n layers that comes before it
+-- Rule 8.2, "the first bad padding": row r of layer i has padding set, and no row of n layers that comes before it
 pub record FirstRow (w h n : ℕ) (l : List ℕ) (i r : ℕ) : Type 0 where
   pub inside : (i < n) × (r < h)
   pub bad : padded w l (i * h + r) ≡ true
   pub none-earlier : (j s : ℕ) → j < n → s < h → Earlier j s 0 i r 0 → padded w l (j * h + s) ≡ false
 
--- Rule 6.10, "a refusal carries its number, its place where the table says so, and nothing else": what a call says where its table refuses is the
+-- Rule 8.6, "a refusal carries its number, its place where the table says so, and nothing else": what a call says where its table refuses is the
 -- number alone, but for 7 and 8, which always come with layer and row of the first bad padding, of the part and of the support
 pub record Tells (said : List ℕ) (cs : List Case) (s : Settings) (part sup : List ℕ) : Type 0 where
   pub alone : (k : ℕ) → Given (suc k) cs → (suc k ≡ 7 → ⊥) → (suc k ≡ 8 → ⊥) → said ≡ suc k ∷ []

@@ -48,11 +48,11 @@ stackBytes s = rowsOf s * rowBytes (s .w)
 unfoldable pub padded : ℕ → List ℕ → ℕ → Bool
 padded w s row = not (eqb (getD s (row * rowBytes w + (rowBytes w - 1)) 0 % 2 ^ (8 * rowBytes w - w)) 0)
 
--- some of the first k rows has
+-- Rule 1.4: some of the first k rows has padding set
 unfoldable pub paddingSet : ℕ → ℕ → List ℕ → Bool
 paddingSet w k s = some k (padded w s)
 
--- the first row that has
+-- Rule 1.4: the first row whose padding is set, "by layer and then row"
 unfoldable pub firstPadded : Settings → List ℕ → Found
 firstPadded s l = first 0 (rowsOf s) (padded (s .w) l)
 

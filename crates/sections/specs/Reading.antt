@@ -199,11 +199,11 @@ module _ (f : List ℕ) (s : Settings) (k : ℕ) (same : s ≡ settingsIn f) whe
   told-support e l el r er = er ∙ rw (same, el) (sym (refused-eight (settingsIn f) (partIn f) (supportIn f) k e))
 
   -- the stretch is a stack with padding
-  pub padded-part : readRefusal f ≡ 7 → (l : List ℕ) → l ≡ partIn f → Padded s l
-  padded-part z l el = rw (same, el) (read-seven f z .1)
+  pub part-padded : readRefusal f ≡ 7 → (l : List ℕ) → l ≡ partIn f → Padded s l
+  part-padded z l el = rw (same, el) (read-seven f z .1)
 
-  pub padded-support : readRefusal f ≡ 8 → (l : List ℕ) → l ≡ supportIn f → Padded s l
-  padded-support z l el = rw (same, el) (read-eight f z .1)
+  pub support-padded : readRefusal f ≡ 8 → (l : List ℕ) → l ≡ supportIn f → Padded s l
+  support-padded z l el = rw (same, el) (read-eight f z .1)
 
 pub told-alone : (f : List ℕ) (k : ℕ) → (k ≡ 7 → ⊥) → (k ≡ 8 → ⊥) → Number k ≡ refusedIn f k
 unfolding refusedIn

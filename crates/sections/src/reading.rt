@@ -8,9 +8,9 @@ use crate::sizes::ring_count;
 use crate::sizes::support_end;
 use limits::padding_refusal;
 use limits::row_bytes;
-use limits::row_refused;
 use limits::rows_of;
 use limits::settings_refusal;
+use limits::with_first_row;
 use rules::Layout;
 use rules::Micrometres;
 use rules::Refusal;
@@ -242,18 +242,18 @@ pub fn copy_refusal(f: &[u8], room: usize) -> u8
 }
 
 // The refusal of a file by a number of reading or copying: 7 and 8 with the row of their stretch.
-pub fn refused_in(f: &[u8], k: u8) -> Refusal
+pub fn with_rows_in(f: &[u8], k: u8) -> Refusal
     requires { ⌜ (k ≡ 7 → readRefusal (now f) ≡ 7) × (k ≡ 8 → readRefusal (now f) ≡ 8) ⌝ }
     ensures { λ r. ⌜ r ≡ refusedIn (now (f .entry)) k ⌝ }
 {
     if k == 7 {
         let s = settings_in(f);
-        return row_refused(k, s, part_in(f, s));
+        return with_first_row(k, s, part_in(f, s));
     }
     if k == 8 {
         let s = settings_in(f);
         let c = stored_in(f, s);
-        return row_refused(k, s, support_in(f, s, c));
+        return with_first_row(k, s, support_in(f, s, c));
     }
     Refusal::Number(k)
 }

@@ -7,10 +7,10 @@ use Rattle.clean.proofs.clean.Tie as tie
 returns : tie.Need-returns
 returns c =
     let A = c .before .before .before .before .before .before .before .args in
-    refuses (A .s) (A .c) (A .part .now) (A .support .now) (A .rings .now) (A .clean .now) _ (c .before .before .refusal .ensures) (c .before .if1 .taken) _ (c .stack-refused .ensures)
+    refuses (A .s) (A .c) (A .part .now) (A .support .now) (A .rings .now) (A .clean .now) _ (c .before .before .refusal .ensures) (c .before .if1 .taken) _ (c .with-part-row .ensures)
 
-stack-refused-requires : tie.Need-stack-refused-requires
-stack-refused-requires c κs =
+with-part-row-requires : tie.Need-stack-refused-requires
+with-part-row-requires c κs =
     let A = c .before .before .before .before .before .before .args in
     seven (A .s) (A .c) (A .part .now) (A .support .now) (A .rings .now) (A .clean .now) _ (c .before .refusal .ensures)
 
@@ -59,5 +59,5 @@ returns-3 c =
 pub clean-spec : {M : Type 1} → statement M
 clean-spec =
     tie.close
-    (tie.spec (λ c κs. search needs) stack-refused-requires returns (λ c κs. search needs) (λ c. search needs) (λ c. search needs) row-bytes-requires stack-requires (λ c. search needs) (λ c. search needs) returns-2
+    (tie.spec (λ c κs. search needs) with-part-row-requires returns (λ c κs. search needs) (λ c. search needs) (λ c. search needs) row-bytes-requires stack-requires (λ c. search needs) (λ c. search needs) returns-2
     (λ c. search needs) (λ c. search needs) (λ c. search needs) returns-3)

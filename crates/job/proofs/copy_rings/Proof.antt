@@ -18,12 +18,12 @@ unfolding copyAnswer copyRings
 returns c =
     let b5 = c .before .before .before .before .before in
     record {
-      answer = ap Refused (c .refused-in .ensures) ∙ says-no Copied (λ k. Refused (refusedIn (now (b5 .args .file)) k)) (c .before .before .copy-refusal .ensures) (c .before .if1 .taken);
+      answer = ap Refused (c .with-rows-in .ensures) ∙ says-no Copied (λ k. Refused (refusedIn (now (b5 .args .file)) k)) (c .before .before .copy-refusal .ensures) (c .before .if1 .taken);
       rings = says-no (ringsStored (now (b5 .args .file))) (λ k. now (b5 .args .rings)) (c .before .before .copy-refusal .ensures) (c .before .if1 .taken);
     }
 
-refused-in-requires : tie.Need-refused-in-requires
-refused-in-requires c κs = (
+with-rows-in-requires : tie.Need-refused-in-requires
+with-rows-in-requires c κs = (
   (λ e. copied-as-read _ _ 6 (λ z. omega arith) (sym (c .before .copy-refusal .ensures) ∙ e)),
   (λ e. copied-as-read _ _ 7 (λ z. omega arith) (sym (c .before .copy-refusal .ensures) ∙ e)),
 )
@@ -41,6 +41,6 @@ returns-2 c =
 pub copy-rings-spec : {M : Type 1} → statement M
 copy-rings-spec =
     tie.close
-    (tie.spec (λ c κs. search needs) refused-in-requires returns (λ c κs. copying _ _ (sym (c .before .copy-refusal .ensures) ∙ c .if1 .left) .accepted)
+    (tie.spec (λ c κs. search needs) with-rows-in-requires returns (λ c κs. copying _ _ (sym (c .before .copy-refusal .ensures) ∙ c .if1 .left) .accepted)
     (λ c κs. let v = copying _ _ (sym (c .before .before .before .copy-refusal .ensures) ∙ c .before .before .if1 .left) in rw (← c .before .layout .ensures) at (v .fits)) (λ c. search needs)
     returns-2)

@@ -6,14 +6,14 @@ use borrow.Author.Needs.{needs}
 use Rattle.job.proofs.read.Statement.{statement}
 use Rattle.job.proofs.read.Tie as tie
 
-refused-in-requires : tie.Need-refused-in-requires
-refused-in-requires c κs = ((λ e. sym (c .before .read-refusal .ensures) ∙ e), (λ e. sym (c .before .read-refusal .ensures) ∙ e))
+with-rows-in-requires : tie.Need-refused-in-requires
+with-rows-in-requires c κs = ((λ e. sym (c .before .read-refusal .ensures) ∙ e), (λ e. sym (c .before .read-refusal .ensures) ∙ e))
 
 returns : tie.Need-returns
 unfolding readAnswer
 returns c =
     let b4 = c .before .before .before .before in
-    record { answer = ap Refused (c .refused-in .ensures) ∙ says-no _ (λ k. Refused (refusedIn (b4 .args .file .now) k)) (c .before .before .read-refusal .ensures) (c .before .if1 .taken) }
+    record { answer = ap Refused (c .with-rows-in .ensures) ∙ says-no _ (λ k. Refused (refusedIn (b4 .args .file .now) k)) (c .before .before .read-refusal .ensures) (c .before .if1 .taken) }
 
 returns-2 : tie.Need-returns-2
 unfolding readAnswer
@@ -24,4 +24,4 @@ returns-2 c =
 pub read-spec : {M : Type 1} → statement M
 read-spec =
     tie.close
-    (tie.spec (λ c κs. search needs) refused-in-requires returns (λ c κs. search needs) returns-2)
+    (tie.spec (λ c κs. search needs) with-rows-in-requires returns (λ c κs. search needs) returns-2)

@@ -16,12 +16,12 @@ returns c =
     let b7 = c .before .before .before .before .before .before .before in
     let A = b7 .args in
     record {
-      answer = ap Refused (c .both-refused .ensures) ∙ says-no _ (λ k. Refused (refused (A .s) (A .part .now) (A .support .now) k)) (c .before .before .write-refusal .ensures) (c .before .if1 .taken);
+      answer = ap Refused (c .with-rows .ensures) ∙ says-no _ (λ k. Refused (refused (A .s) (A .part .now) (A .support .now) k)) (c .before .before .write-refusal .ensures) (c .before .if1 .taken);
       destination = says-no _ (λ k. now (A .out)) (c .before .before .write-refusal .ensures) (c .before .if1 .taken);
     }
 
-both-refused-requires : tie.Need-both-refused-requires
-both-refused-requires c κs =
+with-rows-requires : tie.Need-both-refused-requires
+with-rows-requires c κs =
     let b6 = c .before .before .before .before .before .before in
     let A = b6 .args in padding-told (A .s) (A .part .now) (A .support .now) (A .rings .now) _ _ (c .before .write-refusal .ensures)
 
@@ -42,6 +42,6 @@ returns-2 c =
 pub write-spec : {M : Type 1} → statement M
 write-spec =
     tie.close
-    (tie.spec (λ c κs. search needs) both-refused-requires returns (λ c κs. writable-exactly _ _ .0 (sym (c .before .before .write-refusal .ensures) ∙ c .before .if1 .left))
+    (tie.spec (λ c κs. search needs) with-rows-requires returns (λ c κs. writable-exactly _ _ .0 (sym (c .before .before .write-refusal .ensures) ∙ c .before .if1 .left))
     (λ c κs. let b4 = c .before .before .before .before in let b5 = b4 .before in writable-exactly _ _ .0 (sym (b5 .write-refusal .ensures) ∙ b4 .if1 .left) .0 .settings) job-end-requires
     (λ c. search needs) returns-2)

@@ -7,10 +7,10 @@ use Rattle.judge.proofs.judge.Tie as tie
 returns : tie.Need-returns
 returns c =
     let b6 = c .before .before .before .before .before .before in let args = b6 .args in
-    judged-refused (args .s) (args .part .now) (args .support .now) (args .rings .now) _ (c .before .before .both-refusal .ensures) (c .before .if1 .taken) _ (c .both-refused .ensures)
+    judged-refused (args .s) (args .part .now) (args .support .now) (args .rings .now) _ (c .before .before .both-refusal .ensures) (c .before .if1 .taken) _ (c .with-rows .ensures)
 
-both-refused-requires : tie.Need-both-refused-requires
-both-refused-requires c κs =
+with-rows-requires : tie.Need-both-refused-requires
+with-rows-requires c κs =
     let b5 = c .before .before .before .before .before in let args = b5 .args in
     padding-told (args .s) (args .part .now) (args .support .now) (args .rings .now) _ (c .before .both-refusal .ensures)
 
@@ -27,4 +27,4 @@ returns-2 c =
 pub judge-spec : {M : Type 1} → statement M
 judge-spec =
     tie.close
-    (tie.spec (λ c κs. search needs) both-refused-requires returns verdict-requires returns-2)
+    (tie.spec (λ c κs. search needs) with-rows-requires returns verdict-requires returns-2)

@@ -10,10 +10,10 @@ returns : tie.Need-returns
 returns c =
     let b6 = c .before .before .before .before .before .before in
     let A = b6 .args in
-    refuses (A .s) (A .part .now) (A .support .now) (A .rings .now) _ (c .before .before .stack-refusal .ensures) (c .before .if1 .taken) _ (c .stack-refused .ensures)
+    refuses (A .s) (A .part .now) (A .support .now) (A .rings .now) _ (c .before .before .stack-refusal .ensures) (c .before .if1 .taken) _ (c .with-part-row .ensures)
 
-stack-refused-requires : tie.Need-stack-refused-requires
-stack-refused-requires c κs =
+with-part-row-requires : tie.Need-stack-refused-requires
+with-part-row-requires c κs =
     let A = c .before .before .before .before .before .args in
     seven (A .s) (A .part .now) (A .support .now) (A .rings .now) _ (c .before .stack-refusal .ensures)
 
@@ -57,4 +57,4 @@ returns-2 c =
 pub plan-spec : {M : Type 1} → statement M
 plan-spec =
     tie.close
-    (tie.spec (λ c κs. search needs) stack-refused-requires returns bound-of-requires row-bytes-requires stack-requires (λ c. search needs) (λ c. search needs) returns-2)
+    (tie.spec (λ c κs. search needs) with-part-row-requires returns bound-of-requires row-bytes-requires stack-requires (λ c. search needs) (λ c. search needs) returns-2)

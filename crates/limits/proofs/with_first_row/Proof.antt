@@ -1,12 +1,11 @@
 use mathlib.Core.Path.{refl}
 use mathlib.Core.Bool.{true}
-use native.Mathlib.Omega.{arith}
 use borrow.Author.Needs.{needs}
 use Rattle.laws.specs.Limits.{ranged}
 use Rattle.limits.proofs.Lengths.{rows-fit}
 use Rattle.limits.proofs.Padding.{row-is}
-use Rattle.limits.proofs.row_refused.Statement.{statement}
-use Rattle.limits.proofs.row_refused.Tie as tie
+use Rattle.limits.proofs.with_first_row.Statement.{statement}
+use Rattle.limits.proofs.with_first_row.Tie as tie
 
 padding-row-requires : tie.Need-padding-row-requires
 padding-row-requires c κs =
@@ -22,7 +21,7 @@ returns c =
     let b3 = c .before .before .before in
     row-is (b3 .args .s) (b3 .args .stack .now) (b3 .args .k) _ _ (c .before .rows-of .ensures .0) (c .padding-row .ensures) (b3 .pre .set)
 
-pub row-refused-spec : {M : Type 1} → statement M
-row-refused-spec =
+pub with-first-row-spec : {M : Type 1} → statement M
+with-first-row-spec =
     tie.close
     (tie.spec (λ c κs. search needs) padding-row-requires div-t6 div-t6 returns)
