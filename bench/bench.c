@@ -5,7 +5,7 @@
  *
  * WHAT is plan, check or clean (the library), peer-plan or peer-check (the peer), tuned-plan, tuned-check or tuned-clean (the peer that is
  * tuned further), floor (what no planner can do without: zeroing the ring planes and copying the part), or compare (all three must agree on
- * every byte; at GAPs those that clean). A check judges what was planned before, by the tuned peer, which is not part of the TIMES. INPUT
+ * every byte, and where a byte is spoiled on number and place; at GAPs those that clean). A check judges what was planned before, by the tuned peer, which is not part of the TIMES. INPUT
  * is empty, solid, sphere, lattice, noise, spiral, meander, wide or maze; T is the overhang in pixels, as 10 or 32.99; GAP is that of
  * cleaning in whole pixels, 0 where it is not given. With TIMES 0 only the input is made, so what a call costs by any measure is the
  * difference.
@@ -130,6 +130,33 @@ static void compare_with(size_t k, const struct job *j, const struct job *other)
     check_by(planners[k].check, j);
 }
 
+static kg_answer judged_by(check_call *call, const struct job *j)
+{
+    return call(j->s.w, j->s.h, j->s.n, PITCH, j->overhang, j->part, stack_bytes(j->s), j->support, stack_bytes(j->s), j->rings,
+                ring_count(j->s));
+}
+
+/* One byte is another, something is refused, and all must tell the same number and place. */
+static void same_refusals(const struct job *j, uint8_t *byte, unsigned value)
+{
+    uint8_t was = *byte;
+    *byte = (uint8_t)value;
+    for (size_t k = 1; k < PLANNERS; k++)
+        if (judged_by(planners[k].check, j) != judged_by(kg_check, j)) die("refusals differ");
+    *byte = was;
+}
+
+/* Support taken away, painted in the top layer, and padding set in the last row of each stack. */
+static void compare_refusals(const struct job *j)
+{
+    size_t last = stack_bytes(j->s) - 1, some = 0;
+    while (some < last && j->support[some] == 0) some++;
+    same_refusals(j, &j->support[some], 0);
+    if (j->s.w % 8 == 0) same_refusals(j, &j->support[last], ~(unsigned)j->part[last]);
+    else same_refusals(j, &j->support[last], 1);
+    if (j->s.w % 8 != 0) same_refusals(j, &j->part[last], 1);
+}
+
 static void compare(const struct job *j)
 {
     struct job other = *j;
@@ -137,6 +164,7 @@ static void compare(const struct job *j)
     plan_by(kg_plan, j);
     check_by(kg_check, j);
     for (size_t k = 1; k < PLANNERS; k++) compare_with(k, j, &other);
+    compare_refusals(j);
 }
 
 /* Cleaning must plan as planning does, and those that clean must agree. */

@@ -90,12 +90,18 @@ struct stack {
     row wide;                      /* the W columns */
 };
 
-static int padding_set(const struct stack *s, const uint8_t *stack)
+static kg_answer told(unsigned number, size_t layer, size_t y, size_t x)
+{
+    return number | (kg_answer)layer << 16 | (kg_answer)y << 32 | (kg_answer)x << 48;
+}
+
+/* The first row whose padding is set, with its number; or 0. */
+static kg_answer bad_padding(const struct stack *s, const uint8_t *stack, unsigned number)
 {
     unsigned pad = (1u << (s->bytes * 8 - s->w)) - 1;
     if (pad == 0) return 0;
     for (size_t k = 0; k < s->n * s->h; k++)
-        if ((stack[k * s->bytes + s->bytes - 1] & pad) != 0) return 1;
+        if ((stack[k * s->bytes + s->bytes - 1] & pad) != 0) return told(number, k / s->h, k % s->h, 0);
     return 0;
 }
 
@@ -112,12 +118,12 @@ static unsigned settle(struct stack *s, uint64_t w, uint64_t h, uint64_t n, uint
     return 0;
 }
 
-static unsigned refuse(const struct stack *s, const uint8_t *part, uint64_t part_len, uint64_t support_len, uint64_t rings_len)
+static kg_answer refuse(const struct stack *s, const uint8_t *part, uint64_t part_len, uint64_t support_len, uint64_t rings_len)
 {
     if (part_len != s->n * s->plane) return 4;
     if (support_len != s->n * s->plane) return 5;
     if (rings_len != (s->n - 1) * s->w * s->h) return 6;
-    return padding_set(s, part) ? 7 : 0;
+    return bad_padding(s, part, 7);
 }
 
 /* ---- A pair of layers ---- */
@@ -284,19 +290,14 @@ kg_answer peer_plan(uint64_t w, uint64_t h, uint64_t n, uint32_t pitch, uint32_t
                     uint16_t *rings, uint64_t rings_len)
 {
     struct stack s;
-    unsigned number = settle(&s, w, h, n, pitch, overhang);
-    if (number == 0) number = refuse(&s, part, part_len, support_len, rings_len);
-    if (number != 0) return number;
+    kg_answer refused = settle(&s, w, h, n, pitch, overhang);
+    if (refused == 0) refused = refuse(&s, part, part_len, support_len, rings_len);
+    if (refused != 0) return refused;
     plan(&scratch, &s, part, support, rings);
     return 0;
 }
 
 /* ---- Judging ---- */
-
-static kg_answer told(unsigned number, size_t layer, size_t y, size_t x)
-{
-    return number | (kg_answer)layer << 16 | (kg_answer)y << 32 | (kg_answer)x << 48;
-}
 
 static kg_answer overlap(const struct stack *s, const uint8_t *part, const uint8_t *support)
 {
@@ -379,6 +380,12 @@ static kg_answer bad_ring(struct pair *p, const struct stack *s, const uint16_t 
     return 0;
 }
 
+/* 11 for a pixel of the part, 19 for one of the support. */
+static kg_answer told_unheld(const struct pair *p, size_t layer, size_t y, size_t x)
+{
+    return told((p->upper[y].v[x / 64] & bit_of(x)) != 0 ? 11 : 19, layer, y, x);
+}
+
 /* The first unheld pixel of a pair whose rings are good. */
 INLINE kg_answer unheld(const struct pair *p, const struct stack *s, const uint8_t *below, const uint8_t *above, size_t layer)
 {
@@ -386,7 +393,7 @@ INLINE kg_answer unheld(const struct pair *p, const struct stack *s, const uint8
         row need = row_or(p->upper[y], load_row(above + y * s->bytes, s->bytes));
         row held = row_or(row_or(p->lower[y], load_row(below + y * s->bytes, s->bytes)), p->got[y]), bad = row_but(need, held);
         for (size_t k = 0; row_any(bad); k++)
-            if (bad.v[k] != 0) return told(11, layer, y, 64 * k + (size_t)__builtin_clzll(bad.v[k]));
+            if (bad.v[k] != 0) return told_unheld(p, layer, y, 64 * k + (size_t)__builtin_clzll(bad.v[k]));
     }
     return 0;
 }
@@ -414,9 +421,9 @@ kg_answer peer_check(uint64_t w, uint64_t h, uint64_t n, uint32_t pitch, uint32_
                      const uint16_t *rings, uint64_t rings_len)
 {
     struct stack s;
-    unsigned number = settle(&s, w, h, n, pitch, overhang);
-    if (number == 0) number = refuse(&s, part, part_len, support_len, rings_len);
-    if (number != 0) return number;
-    if (padding_set(&s, support)) return 8;
+    kg_answer refused = settle(&s, w, h, n, pitch, overhang);
+    if (refused == 0) refused = refuse(&s, part, part_len, support_len, rings_len);
+    if (refused == 0) refused = bad_padding(&s, support, 8);
+    if (refused != 0) return refused;
     return judge(&scratch, &s, part, support, rings);
 }

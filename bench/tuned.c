@@ -123,12 +123,21 @@ static void find_halves(int *half, int reach, int bound)
         for (half[d] = 0; (half[d] + 1) * (half[d] + 1) + d * d <= bound;) half[d]++;
 }
 
-static int padding_set(const struct stack *s, const uint8_t *stack)
+static kg_answer told(unsigned number, size_t layer, size_t y, size_t x)
 {
-    unsigned pad = (unsigned)(s->bytes * 8 - s->w), found = 0;
+    return number | (kg_answer)layer << 16 | (kg_answer)y << 32 | (kg_answer)x << 48;
+}
+
+/* The first row whose padding is set, with its number; or 0. All rows are joined first, which most stacks pass. */
+static kg_answer bad_padding(const struct stack *s, const uint8_t *stack, unsigned number)
+{
+    unsigned pad = (unsigned)(s->bytes * 8 - s->w), mask = (1u << pad) - 1, found = 0;
     if (pad == 0) return 0;
     for (size_t k = 0; k < s->n * s->h; k++) found |= stack[k * s->bytes + s->bytes - 1];
-    return (found & ((1u << pad) - 1)) != 0;
+    if ((found & mask) == 0) return 0;
+    size_t k = 0;
+    while ((stack[k * s->bytes + s->bytes - 1] & mask) == 0) k++;
+    return told(number, k / s->h, k % s->h, 0);
 }
 
 static unsigned settle(struct stack *s, uint64_t w, uint64_t h, uint64_t n, uint32_t pitch, uint32_t overhang)
@@ -465,9 +474,9 @@ kg_answer tuned_plan(uint64_t w, uint64_t h, uint64_t n, uint32_t pitch, uint32_
     unsigned number = settle(&s, w, h, n, pitch, overhang);
     if (number == 0) number = lengths(&s, part_len, support_len, rings_len);
     if (number != 0) return number;
-    if (padding_set(&s, part)) return 7;
-    plan(&s, part, support, rings);
-    return 0;
+    kg_answer padding = bad_padding(&s, part, 7);
+    if (padding == 0) plan(&s, part, support, rings);
+    return padding;
 }
 
 /* ---- Closing ---- */
@@ -711,11 +720,6 @@ kg_answer tuned_clean(uint64_t w, uint64_t h, uint64_t n, uint32_t pitch, uint32
 
 /* ---- Judging ---- */
 
-static kg_answer told(unsigned number, size_t layer, size_t y, size_t x)
-{
-    return number | (kg_answer)layer << 16 | (kg_answer)y << 32 | (kg_answer)x << 48;
-}
-
 static kg_answer overlap(const struct stack *s, const uint8_t *part, const uint8_t *support)
 {
     uint8_t found = 0;
@@ -885,11 +889,20 @@ static int is_unheld(struct judged *j, size_t y, size_t x)
     return above && !filled(s, j->pair.low, y, x) && !filled(s, j->below, y, x) && j->rings[y * s->w + x] == 0;
 }
 
-static kg_answer first_place(struct judged *j, unsigned number, size_t layer)
+static kg_answer first_bad(struct judged *j, size_t layer)
 {
     for (size_t y = 0; y < j->pair.s->h; y++)
         for (size_t x = 0; x < j->pair.s->w; x++)
-            if (number == 10 ? is_bad(j, y, x) : is_unheld(j, y, x)) return told(number, layer, y, x);
+            if (is_bad(j, y, x)) return told(10, layer, y, x);
+    return 0;
+}
+
+/* 11 for a pixel of the part, 19 for one of the support. */
+static kg_answer first_unheld(struct judged *j, size_t layer)
+{
+    for (size_t y = 0; y < j->pair.s->h; y++)
+        for (size_t x = 0; x < j->pair.s->w; x++)
+            if (is_unheld(j, y, x)) return told(filled(j->pair.s, j->pair.up, y, x) ? 11 : 19, layer, y, x);
     return 0;
 }
 
@@ -901,7 +914,7 @@ static kg_answer judge_pair(struct judged *j, size_t layer, kg_answer before)
     const struct stack *s = j->pair.s;
     memset(j->known, 0, s->h);
     int good = good_rings(j);
-    kg_answer found = !good ? first_place(j, 10, layer) : j->hangs && before == 0 ? first_place(j, 11, layer) : before;
+    kg_answer found = !good ? first_bad(j, layer) : j->hangs && before == 0 ? first_unheld(j, layer) : before;
     empty_rows(&j->pair, j->pair.shadow);
     return found;
 }
@@ -932,7 +945,7 @@ kg_answer tuned_check(uint64_t w, uint64_t h, uint64_t n, uint32_t pitch, uint32
     unsigned number = settle(&s, w, h, n, pitch, overhang);
     if (number == 0) number = lengths(&s, part_len, support_len, rings_len);
     if (number != 0) return number;
-    if (padding_set(&s, part)) return 7;
-    if (padding_set(&s, support)) return 8;
-    return judge(&s, part, support, rings);
+    kg_answer padding = bad_padding(&s, part, 7);
+    if (padding == 0) padding = bad_padding(&s, support, 8);
+    return padding != 0 ? padding : judge(&s, part, support, rings);
 }

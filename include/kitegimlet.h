@@ -5,10 +5,11 @@
  * A buffer is a pointer and the number of its elements, all of which must be there, aligned for their type; with 0 elements the
  * pointer may be null. Buffers that a call writes must not overlap any other buffer of that call.
  *
- * Images: a row is (w + 7) / 8 bytes, the highest bit being the leftmost pixel, 1 meaning filled, unused low bits 0. A plane is h rows,
- * row 0 first; a stack is n planes, layer 0 first, so n * h * ((w + 7) / 8) bytes. Rings: n - 1 planes of w * h numbers of 16 bits; plane i
- * belongs to the layers i and i + 1. Sizes w, h: 1 to 256; n: 1 to 512. Pitch (pixel width): 10 to 1,000 micrometres; overhang: 0 to
- * 10,000 micrometres. The help page docs/REFUSALS.md has every refusal number with what to do about it.
+ * Images: a row is (w + 7) / 8 bytes, the highest bit being the leftmost pixel, 1 meaning filled; the unused low bits are its padding and
+ * must be 0. A plane is h rows, row 0 first; a stack is n planes, layer 0 first, so n * h * ((w + 7) / 8) bytes.
+ * Rings: n - 1 planes of w * h numbers of 16 bits; plane i belongs to the layers i and i + 1. Sizes w, h: 1 to 256; n: 1 to 512. Pitch (pixel
+ * width): 10 to 1,000 micrometres; overhang: 0 to 10,000 micrometres. The help page docs/REFUSALS.md has every refusal number with what to do
+ * about it.
  */
 #ifndef KITEGIMLET_H
 #define KITEGIMLET_H
@@ -21,12 +22,13 @@
 extern "C" {
 #endif
 
-/* An answer: the refusal number in bits 0 to 15, 0 for none, and values above it. Which values a call gives is said at the call. A
- * refusal carries its place where it has one and else nothing: 7 and 8 the first row whose padding is set, so layer and row; 9, 10, 11 and 19
- * a pixel, so layer, row and column. All are counted from 0. */
+/* An answer: the refusal number in bits 0 to 15, 0 for none, and what it tells above it. A refusal carries its number, its place where it has
+ * one, and nothing else: 7 tells the first row of the part whose padding is set and 8 that of the support, by layer and then row; 9, 10, 11 and
+ * 19 tell a pixel by layer, row and column. All are counted from 0. So a number is asked by kg_number, not by comparing whole answers. */
 typedef uint64_t kg_answer;
 
-/* kg_value means something where the number is 0; kg_layer and kg_row where the place has two parts, kg_column too where it has three. */
+/* kg_layer and kg_row mean something where the place has two or three parts (kg_place_parts), kg_column where it has three, and kg_value where
+ * kg_reach or kg_write gives 0. */
 static inline unsigned kg_number(kg_answer a) { return (unsigned)(a & 0xFFFFu); }
 static inline unsigned kg_layer(kg_answer a) { return (unsigned)(a >> 16 & 0xFFFFu); }
 static inline unsigned kg_row(kg_answer a) { return (unsigned)(a >> 32 & 0xFFFFu); }
@@ -73,7 +75,7 @@ kg_answer kg_clean(uint64_t w, uint64_t h, uint64_t n, uint32_t pitch, uint32_t 
 
 /* Judges support that anyone made: 0 where it holds. Refusals 1 to 8, 7 and 8 with their places; then 9 (a support pixel inside the part),
  * then 10 (a ring number that is wrong), then 11 (a pixel of the part that hangs) or 19 (one of the support), whichever comes first, each
- * with its first place. */
+ * with its first place. The layer of 10, 11 and 19 is the upper one of the pair, so the ring stands in plane kg_layer - 1. */
 kg_answer kg_check(uint64_t w, uint64_t h, uint64_t n, uint32_t pitch, uint32_t overhang,
                    const uint8_t *part, uint64_t part_len,
                    const uint8_t *support, uint64_t support_len,

@@ -156,10 +156,14 @@ seen-parts x k i r c n e hk hi hr hc p h =
 refusal-seen : {v : Refusal} → Fits v → (number (packRefusal v) ∷ seesParts (packRefusal v)) ≡ saysRefusal v
 refusal-seen (alone k h p) = let (a, b) = seen-parts k k 0 0 0 0 (omega arith) h (omega arith) (omega arith) (omega arith) p (omega arith) in rw (a, b)
 refusal-seen (in-row k at h p hi hr) =
-    let (a, b) = seen-parts (packRefusal (InRow k at)) k (at .layer) (at .row) 0 2 (omega (arith, mod-eq-of-lt hi, mod-eq-of-lt hr)) h hi hr (omega arith) p (omega (arith, mod-eq-of-lt hi, mod-eq-of-lt hr)) in
+    let x : ℕ = packRefusal (InRow k at) in
+    let e : x ≡ k + at .layer * 65536 + at .row * 4294967296 = omega (arith, mod-eq-of-lt hi, mod-eq-of-lt hr) in
+    let (a, b) = seen-parts x k (at .layer) (at .row) 0 2 (omega arith) h hi hr (omega arith) p (omega arith) in
     rw (a, b)
 refusal-seen (at-pixel k at h p hi hr hc) =
-    let (a, b) = seen-parts (packRefusal (AtPixel k at)) k (at .layer) (at .row) (at .column) 3 (omega (arith, mod-eq-of-lt hi, mod-eq-of-lt hr, mod-eq-of-lt hc)) h hi hr hc p (omega (arith, mod-eq-of-lt hi, mod-eq-of-lt hr, mod-eq-of-lt hc)) in
+    let x : ℕ = packRefusal (AtPixel k at) in
+    let e : x ≡ k + at .layer * 65536 + at .row * 4294967296 + at .column * 281474976710656 = omega (arith, mod-eq-of-lt hi, mod-eq-of-lt hr, mod-eq-of-lt hc) in
+    let (a, b) = seen-parts x k (at .layer) (at .row) (at .column) 3 e h hi hr hc p (omega arith) in
     rw (a, b)
 
 -- a table's numbers are 7, 8 or without a place

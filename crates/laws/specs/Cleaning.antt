@@ -52,7 +52,8 @@ module _ (s : Settings) (c : Pixels) (part sup ring clean : List ℕ) where
       × (cleanCleaned s c part sup ring clean ≡ clean)
   unfolding cleanAnswer cleanSupport cleanRings cleanCleaned
   clean-keeps n =
-      (ap (λ (a : Planned). getD (saysPlanned a) 0 0) (answer-refused r Done (λ k. Refused (refused s part [] k)) n) ∙ refused-number s part [] r, answer-refused r _ (λ k. sup) n, answer-refused r _ (λ k. ring) n, answer-refused r _ (λ k. clean) n)
+      let a = answer-refused r Done (λ k. Refused (refused s part [] k)) n in
+      (ap (λ (x : Planned). getD (saysPlanned x) 0 0) a ∙ refused-number s part [] r, answer-refused r _ (λ k. sup) n, answer-refused r _ (λ k. ring) n, answer-refused r _ (λ k. clean) n)
 
   -- an answer of 0 is one that is not refused
   fine : (a : Planned) → a ≡ cleanAnswer s c part (length sup) (length ring) (length clean) → saysPlanned a ≡ 0 ∷ [] → r ≡ 0

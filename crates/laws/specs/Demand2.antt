@@ -39,7 +39,9 @@ module _ (s : Settings) (part sup ring : List ℕ) where
   pub plan-keeps : (r ≡ 0 → ⊥) →
       (getD (saysPlanned (planAnswer s part (length sup) (length ring))) 0 0 ≡ r) × (planSupport s part sup ring ≡ sup) × (planRings s part sup ring ≡ ring)
   unfolding planAnswer planSupport planRings
-  plan-keeps n = (ap (λ (a : Planned). getD (saysPlanned a) 0 0) (answer-refused r Done (λ k. Refused (refused s part [] k)) n) ∙ refused-number s part [] r, answer-refused r _ (λ k. sup) n, answer-refused r _ (λ k. ring) n)
+  plan-keeps n =
+      let a = answer-refused r Done (λ k. Refused (refused s part [] k)) n in
+      (ap (λ (x : Planned). getD (saysPlanned x) 0 0) a ∙ refused-number s part [] r, answer-refused r _ (λ k. sup) n, answer-refused r _ (λ k. ring) n)
 
 -- The chapter's rules ------------------------------------------------------------------------------------------------------
 

@@ -117,11 +117,15 @@ whole-out f k n e =
     let s : Settings = settingsIn f in
     let c : ℕ = storedIn f in
     let x : Bool = ltb (jobEnd s c) (length f) in
-    let p0 = else-passes (refusal (sectionCases f 0 (eqb 5) 2)) _ k (n (sectionCases f 0 (eqb 5) 2) refl) (sym (read-parts f) ∙ e) in
+    let a : List Case = sectionCases f 0 (eqb 5) 2 in
+    let b : List Case = sectionCases f headEnd (eqb (rowsOf s)) (rowBytes (s .w)) in
+    let d : List Case = sectionCases f (partEnd s) (supportCount s) (rowBytes (s .w)) in
+    let g : List Case = sectionCases f (supportEnd s c) (eqb (ringCount s c)) 2 in
+    let p0 = else-passes (refusal a) _ k (n a refl) (sym (read-parts f) ∙ e) in
     let p1 = else-passes (refusal (settingCases s)) (bodyRefusal f s) k (n (settingCases s) refl) (p0 .1) in
-    let p2 = else-passes (refusal (sectionCases f headEnd (eqb (rowsOf s)) (rowBytes (s .w)))) _ k (n (sectionCases f headEnd (eqb (rowsOf s)) (rowBytes (s .w))) refl) (p1 .1) in
-    let p3 = else-passes (refusal (sectionCases f (partEnd s) (supportCount s) (rowBytes (s .w)))) (ringsRefusal f s c) k (n (sectionCases f (partEnd s) (supportCount s) (rowBytes (s .w))) refl) (p2 .1) in
-    let p4 = else-passes (refusal (sectionCases f (supportEnd s c) (eqb (ringCount s c)) 2)) (orElse (cond x 14 0) (paddingRefusal f s c)) k (n (sectionCases f (supportEnd s c) (eqb (ringCount s c)) 2) refl) (p3 .1) in
+    let p2 = else-passes (refusal b) _ k (n b refl) (p1 .1) in
+    let p3 = else-passes (refusal d) (ringsRefusal f s c) k (n d refl) (p2 .1) in
+    let p4 = else-passes (refusal g) (orElse (cond x 14 0) (paddingRefusal f s c)) k (n g refl) (p3 .1) in
     let p5 = else-passes (cond x 14 0) (paddingRefusal f s c) k (n ((14 when x) ∷ []) refl) (p4 .1) in
     let one = section-out f 0 (eqb 5) 2 (p0 .0) in
     let two = section-out f headEnd (eqb (rowsOf s)) (rowBytes (s .w)) (p2 .0) in
@@ -178,7 +182,9 @@ padded-part : (f : List ℕ) → readRefusal f ≡ 7 → WholeFile f × (padding
 unfolding paddingRefusal lacks
 padded-part f e =
     let (w, p) = whole-out f 7 (λ cs l z. absurd (never 6 cs (and-l (lacks 7 cs) (lacks 8 cs) l) z)) e in
-    (w, case-told _ 6 (else-first (cond (paddingSet (settingsIn f .w) (rowsOf (settingsIn f)) (partIn f)) 7 0) _ 7 (λ z. never 6 ((8 when paddingSet (settingsIn f .w) (storedIn f) (supportIn f)) ∷ []) refl z) p))
+    let y : Bool = paddingSet (settingsIn f .w) (rowsOf (settingsIn f)) (partIn f) in
+    let z : Bool = paddingSet (settingsIn f .w) (storedIn f) (supportIn f) in
+    (w, case-told y 6 (else-first (cond y 7 0) (cond z 8 0) 7 (never 6 ((8 when z) ∷ []) refl) p))
 
 padded-support : (f : List ℕ) → readRefusal f ≡ 8 → WholeFile f × (paddingSet (settingsIn f .w) (storedIn f) (supportIn f) ≡ true)
 unfolding paddingRefusal lacks

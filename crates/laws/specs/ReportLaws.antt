@@ -176,7 +176,11 @@ line-tells (x ∷ l) (y ∷ m) e =
     let (d, t, hd, ed) = follows m in
     let tail : (decimal x ++ allSpaced l) ++ newline ≡ (decimal y ++ allSpaced m) ++ newline = cc in
     let apart : decimal x ++ c ∷ r ≡ decimal y ++ d ∷ t =
-    ap (λ (v : List ℕ). decimal x ++ v) (sym ec) ∙ sym (append-assoc (decimal x) (allSpaced l) newline) ∙ tail ∙ append-assoc (decimal y) (allSpaced m) newline ∙ ap (λ (v : List ℕ). decimal y ++ v) ed in
+    ap (λ (v : List ℕ). decimal x ++ v) (sym ec)
+    ∙ sym (append-assoc (decimal x) (allSpaced l) newline)
+    ∙ tail
+    ∙ append-assoc (decimal y) (allSpaced m) newline
+    ∙ ap (λ (v : List ℕ). decimal y ++ v) ed in
     let (p, q) = cut c d r t (digits-figures (suc x) x) (digits-figures (suc y) y) hc hd apart in
     let same : x ≡ y = sym (decimal-value x) ∙ ap (valueFrom 0) p ∙ decimal-value y in
     ap₂ (λ (u : ℕ) (v : List ℕ). u ∷ v) same (line-tells l m (ec ∙ q ∙ sym ed))

@@ -105,7 +105,8 @@ seventeen-short = omega (arith, refused-long (17 ∷ []), number-short 17 (omega
 pub refused-short : (f : List ℕ) → length (refusedLine (saysRefusal (refusedIn f (readRefusal f)))) ≤ 16384
 refused-short f = omega (arith, refused-long (saysRefusal (refusedIn f (readRefusal f))), said-short f (readRefusal f) refl (read-small f))
 
-pub refused-printed : (said : List ℕ) (r : ℕ) (now was : List ℕ) → length (refusedLine said) ≤ 16384 → (r ≡ length (refusedLine said)) × (now ≡ over was 0 (refusedLine said)) → Printed (refusedLine said) r now was
+pub refused-printed : (said : List ℕ) (r : ℕ) (now was : List ℕ) → length (refusedLine said) ≤ 16384 → (r ≡ length (refusedLine said)) × (now ≡ over was 0 (refusedLine said)) →
+    Printed (refusedLine said) r now was
 refused-printed said r now was h (e, is) = record { ends = e; holds = is; room = omega arith }
 
 -- planned into the buffers, and printed

@@ -9,7 +9,7 @@ returns c =
     let A = c .before .before .before .before .before .before .before .args in
     refuses (A .s) (A .c) (A .part .now) (A .support .now) (A .rings .now) (A .clean .now) _ (c .before .before .refusal .ensures) (c .before .if1 .taken) _ (c .with-part-row .ensures)
 
-with-part-row-requires : tie.Need-stack-refused-requires
+with-part-row-requires : tie.Need-with-part-row-requires
 with-part-row-requires c κs =
     let A = c .before .before .before .before .before .before .args in
     seven (A .s) (A .c) (A .part .now) (A .support .now) (A .rings .now) (A .clean .now) _ (c .before .refusal .ensures)
@@ -43,8 +43,9 @@ stack-requires c κs =
 
 returns-2 : tie.Need-returns-2
 returns-2 c =
-    let A = c .before .before .before .before .before .before .before .before .before .before .before .before .before .before .before .before .args in
-    refuses-too (A .s) (A .c) (A .part .now) (A .support .now) (A .rings .now) (A .clean .now) _ (c .before .before .before .before .before .before .before .before .before .before .before .refusal .ensures) (c .before .before .before .before .before .before .before .before .before .before .if1 .left) _ _ _ (c .before .before .before .before .before .before .before .plan .ensures) _ (c .before .r .given .1)
+    let b7 = c .before .before .before .before .before .before .before in let b10 = b7 .before .before .before in let b11 = b10 .before in let b16 = b11 .before .before .before .before .before in
+    let A = b16 .args in
+    refuses-too (A .s) (A .c) (A .part .now) (A .support .now) (A .rings .now) (A .clean .now) _ (b11 .refusal .ensures) (b10 .if1 .left) _ _ _ (b7 .plan .ensures) _ (c .before .r .given .1)
 
 returns-3 : tie.Need-returns-3
 returns-3 c =
@@ -59,5 +60,6 @@ returns-3 c =
 pub clean-spec : {M : Type 1} → statement M
 clean-spec =
     tie.close
-    (tie.spec (λ c κs. search needs) with-part-row-requires returns (λ c κs. search needs) (λ c. search needs) (λ c. search needs) row-bytes-requires stack-requires (λ c. search needs) (λ c. search needs) returns-2
+    (tie.spec (λ c κs. search needs) with-part-row-requires returns (λ c κs. search needs) (λ c. search needs) (λ c. search needs) row-bytes-requires stack-requires
+    (λ c. search needs) (λ c. search needs) returns-2
     (λ c. search needs) (λ c. search needs) (λ c. search needs) returns-3)

@@ -22,7 +22,7 @@ returns c =
       rings = says-no (ringsStored (now (b5 .args .file))) (λ k. now (b5 .args .rings)) (c .before .before .copy-refusal .ensures) (c .before .if1 .taken);
     }
 
-with-rows-in-requires : tie.Need-refused-in-requires
+with-rows-in-requires : tie.Need-with-rows-in-requires
 with-rows-in-requires c κs = (
   (λ e. copied-as-read _ _ 6 (λ z. omega arith) (sym (c .before .copy-refusal .ensures) ∙ e)),
   (λ e. copied-as-read _ _ 7 (λ z. omega arith) (sym (c .before .copy-refusal .ensures) ∙ e)),

@@ -26,5 +26,6 @@ pub part-spec : {M : Type 1} → statement M
 part-spec =
     tie.close
     (tie.spec (λ c κs. search needs) (λ c. search needs) returns (λ c κs. head-whole _ (whole _ (sym (c .before .read-refusal .ensures) ∙ c .if1 .left)))
-    (λ c κs. let b = behind _ _ (whole _ (sym (c .before .before .read-refusal .ensures) ∙ c .before .if1 .left)) (c .settings-in .ensures) in (b .fine, c .settings-in .ensures, omega (arith, b .count)))
+    (λ c κs. let b = behind _ _ (whole _ (sym (c .before .before .read-refusal .ensures) ∙ c .before .if1 .left)) (c .settings-in .ensures) in
+    (b .fine, c .settings-in .ensures, omega (arith, b .count)))
     returns-2)

@@ -6,7 +6,7 @@ use borrow.Author.Needs.{needs}
 use Rattle.job.proofs.read.Statement.{statement}
 use Rattle.job.proofs.read.Tie as tie
 
-with-rows-in-requires : tie.Need-refused-in-requires
+with-rows-in-requires : tie.Need-with-rows-in-requires
 with-rows-in-requires c κs = ((λ e. sym (c .before .read-refusal .ensures) ∙ e), (λ e. sym (c .before .read-refusal .ensures) ∙ e))
 
 returns : tie.Need-returns

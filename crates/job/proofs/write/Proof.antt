@@ -20,7 +20,7 @@ returns c =
       destination = says-no _ (λ k. now (A .out)) (c .before .before .write-refusal .ensures) (c .before .if1 .taken);
     }
 
-with-rows-requires : tie.Need-both-refused-requires
+with-rows-requires : tie.Need-with-rows-requires
 with-rows-requires c κs =
     let b6 = c .before .before .before .before .before .before in
     let A = b6 .args in padding-told (A .s) (A .part .now) (A .support .now) (A .rings .now) _ _ (c .before .write-refusal .ensures)
@@ -35,7 +35,8 @@ unfolding writeAnswer writeTo fileLength
 returns-2 c =
     let b4 = c .before .before .before .before in let b6 = b4 .before .before in let b7 = b6 .before in let b12 = b7 .before .before .before .before .before in
     record {
-      answer = says-yes _ (λ k. Refused (refused (b12 .args .s) (b12 .args .part .now) (b12 .args .support .now) k)) (b7 .write-refusal .ensures) (b6 .if1 .left) (ap Length (c .job-end .ensures .0 ∙ ap (jobEnd (b12 .args .s)) (c .before .stored-rows .ensures .0)));
+      answer = says-yes _ (λ k. Refused (refused (b12 .args .s) (b12 .args .part .now) (b12 .args .support .now) k)) (b7 .write-refusal .ensures) (b6 .if1 .left)
+          (ap Length (c .job-end .ensures .0 ∙ ap (jobEnd (b12 .args .s)) (c .before .stored-rows .ensures .0)));
       destination = says-yes _ (λ k. now (b12 .args .out)) (b7 .write-refusal .ensures) (b6 .if1 .left) (b4 .put-job .ensures);
     }
 

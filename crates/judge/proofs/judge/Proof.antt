@@ -9,7 +9,7 @@ returns c =
     let b6 = c .before .before .before .before .before .before in let args = b6 .args in
     judged-refused (args .s) (args .part .now) (args .support .now) (args .rings .now) _ (c .before .before .both-refusal .ensures) (c .before .if1 .taken) _ (c .with-rows .ensures)
 
-with-rows-requires : tie.Need-both-refused-requires
+with-rows-requires : tie.Need-with-rows-requires
 with-rows-requires c κs =
     let b5 = c .before .before .before .before .before in let args = b5 .args in
     padding-told (args .s) (args .part .now) (args .support .now) (args .rings .now) _ (c .before .both-refusal .ensures)

@@ -88,4 +88,5 @@ verdict-spec =
     (λ c. omega (arith, pixels-most (c .before .before .before .args .s) (c .before .before .before .pre .0))) (λ c. search needs)
     (λ c. let b3 = c .before .before .before in omega (arith, rings-most (b3 .args .s) (b3 .pre .0), rings-is (b3 .args .s))) overlap-at-requires
     (λ c κs. let b5 = c .before .before .before .before .before in (plane-sized (b5 .args .s) (b5 .pre .0), (omega (arith, pixels-most (b5 .args .s) (b5 .pre .0), c .if1 .taken), omega arith)))
-    returns (λ c κs. c .before .before .before .before .before .pre .0) sure-requires returns-2 first-requires place-of-requires-2 returns-3 first-requires-2 unheld-number-requires place-of-requires-3 returns-4 returns-5)
+    returns (λ c κs. c .before .before .before .before .before .pre .0) sure-requires returns-2 first-requires place-of-requires-2 returns-3 first-requires-2
+    unheld-number-requires place-of-requires-3 returns-4 returns-5)

@@ -12,7 +12,8 @@ returns c =
 returns-2 : tie.Need-returns-2
 returns-2 c =
     let b4 = c .before .before .before .before in let b7 = b4 .before .before .before in
-    read-kept (b7 .args .file .now) (b4 .read .result) (b4 .read .ensures) (c .before .before .r .given .0 .0) (c .pack-refusal .result) (b7 .args .room .now) (c .before .before .r .given .1) (c .pack-refusal .ensures)
+    read-kept (b7 .args .file .now) (b4 .read .result) (b4 .read .ensures) (c .before .before .r .given .0 .0) (c .pack-refusal .result) (b7 .args .room .now)
+    (c .before .before .r .given .1) (c .pack-refusal .ensures)
 
 pub kg-read-spec : {M : Type 1} → statement M
 kg-read-spec =

@@ -56,5 +56,6 @@ returns-3 c =
 pub put-refusal-spec : {M : Type 1} → statement M
 put-refusal-spec =
     tie.close
-    (tie.spec (λ c. search needs) (λ c κs. search needs) put-spaced-requires (λ c. search needs) (λ c κs. search needs) put-spaced-requires-2 put-two-requires (λ c. search needs) (λ c κs. search needs)
+    (tie.spec (λ c. search needs) (λ c κs. search needs) put-spaced-requires (λ c. search needs) (λ c κs. search needs) put-spaced-requires-2 put-two-requires (λ c. search needs)
+    (λ c κs. search needs)
     put-spaced-requires-3 put-two-requires-2 put-spaced-requires-4 (λ c. search needs) returns (λ c. search needs) returns-2 (λ c. search needs) returns-3)

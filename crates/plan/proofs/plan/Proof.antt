@@ -12,7 +12,7 @@ returns c =
     let A = b6 .args in
     refuses (A .s) (A .part .now) (A .support .now) (A .rings .now) _ (c .before .before .stack-refusal .ensures) (c .before .if1 .taken) _ (c .with-part-row .ensures)
 
-with-part-row-requires : tie.Need-stack-refused-requires
+with-part-row-requires : tie.Need-with-part-row-requires
 with-part-row-requires c κs =
     let A = c .before .before .before .before .before .args in
     seven (A .s) (A .part .now) (A .support .now) (A .rings .now) _ (c .before .stack-refusal .ensures)

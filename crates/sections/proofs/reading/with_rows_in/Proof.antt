@@ -12,7 +12,7 @@ part-in-requires c κs =
     let b = behind _ _ (read-seven _ (c .before .before .before .pre .0 (c .before .if1 .taken)) .0) (c .settings-in .ensures) in
     (b .fine, c .settings-in .ensures, omega (arith, b .count))
 
-with-first-row-requires : tie.Need-row-refused-requires
+with-first-row-requires : tie.Need-with-first-row-requires
 with-first-row-requires c κs =
     let b4 = c .before .before .before .before in
     part-padded _ _ (b4 .args .k) (c .before .settings-in .ensures) (b4 .pre .0 (c .before .before .if1 .taken)) _ (c .part-in .ensures)
@@ -35,7 +35,7 @@ support-in-requires c κs =
     let b5 = c .before .before .before .before .before in
     stored-file _ _ _ (c .stored-in .ensures) (read-eight _ (b5 .pre .1 (c .before .before .if2 .taken)) .0) (c .before .settings-in2 .ensures)
 
-with-first-row-requires-2 : tie.Need-row-refused-requires-2
+with-first-row-requires-2 : tie.Need-with-first-row-requires-2
 with-first-row-requires-2 c κs =
     let b3 = c .before .before .before in let b6 = b3 .before .before .before in
     support-padded _ _ (b6 .args .k) (c .before .before .settings-in2 .ensures) (b6 .pre .1 (b3 .if2 .taken)) _ (c .support-in .ensures)
@@ -43,7 +43,7 @@ with-first-row-requires-2 c κs =
 returns-2 : tie.Need-returns-2
 returns-2 c =
     let b3 = c .before .before .before in let b4 = b3 .before in
-    told-support _ _ _ (b3 .settings-in2 .ensures) (b4 .if2 .taken) _ (c .before .support-in .ensures) _ (c .row-refused2 .ensures)
+    told-support _ _ _ (b3 .settings-in2 .ensures) (b4 .if2 .taken) _ (c .before .support-in .ensures) _ (c .with-first-row2 .ensures)
 
 returns-3 : tie.Need-returns-3
 returns-3 c = told-alone _ _ (c .before .if1 .left) (c .if2 .left)
