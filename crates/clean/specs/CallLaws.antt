@@ -2,13 +2,13 @@
 use mathlib.Core.Path.{_≡_, refl, sym, ap, _∙_}
 use mathlib.Core.Bool.{false}
 use mathlib.Core.List.{List, []}
-use Prim.Native.Nat.{ℕ, zero, suc, _-_, _*_, _≤_, _<_}
+use Prim.Native.Nat.{ℕ, _-_, _*_, _≤_, _<_}
 use native.Mathlib.Omega.{arith}
 use lib.ListN.{length}
-use Rattle.rules.specs.Calls.{settingCases, refused, planCases, planRefusal, planAnswer, planSupport, planRings, cleanRefusal, cleanAnswer, cleanSupport, cleanRings, cleanCleaned}
+use Rattle.rules.specs.Calls.{settingCases, refused, planCases, planRefusal, planSupport, planRings, cleanRefusal, cleanAnswer, cleanSupport, cleanRings, cleanCleaned}
 use Rattle.rules.specs.Cleaning.{mostGap}
 use Rattle.rules.specs.Images.{rowBytes, rowsOf, stackBytes, paddingSet, pixel, bytesOf}
-use Rattle.rules.specs.Outcomes.{Plans, Cleans}
+use Rattle.rules.specs.Outcomes.{Cleans}
 use Rattle.rules.specs.Planning.{plannedRings, plannedBytes}
 use Rattle.rules.specs.Reach.{boundOf}
 use Rattle.rules.specs.Tools.{refusal, answer}
@@ -19,9 +19,9 @@ use Rattle.rules.specs.declared.Pixels.{Pixels}
 use Rattle.rules.specs.declared.Settings.{Settings}
 use Rattle.laws.specs.Demand2.{planned-top}
 use Rattle.laws.specs.Demand3.{plannedBytes-clear, plannedBytes-length}
-use Rattle.laws.specs.Refusals.{answer-fine, answer-refused, says-no}
+use Rattle.laws.specs.Refusals.{answer-fine, says-no, says-yes}
 use Rattle.laws.specs.StackTables.{Padded, clean-seven, clean-as-plan, clean-settings, clean-gap, clean-part, clean-length}
-use Rattle.plan.specs.CallLaws.{Planable, planable}
+use Rattle.plan.specs.CallLaws.{Planable, planable, Planning}
 use Rattle.clean.specs.LayerLaws.{cleaned-bytes}
 use Rattle.clean.specs.Layers.{Early, Lent, cleanBy}
 
@@ -95,51 +95,48 @@ module _ (s : Settings) (c : Pixels) (part sup rings clean : List ℕ) (k : ℕ)
   clean-size z = E .clean-long z
 
   -- from here on the refusal is planning's
-  module _ (z : k ≡ 0) (a : Planned) (sup′ rings′ : List ℕ) (P : Plans s part sup rings a sup′ rings′) where
+  module _ (z : k ≡ 0) (m : ℕ) (sup′ rings′ : List ℕ) (P : Planning s part sup rings m sup′ rings′) where
     as-plan : r ≡ p
     as-plan = clean-as-plan s c part (length sup) (length rings) (length clean) (E .gap z) (E .clean-long z)
 
+    told : m ≡ r
+    told = P .number ∙ sym as-plan
+
+    -- what planning leaves is what cleaning leaves
+    left-support : sup′ ≡ cleanSupport s c part sup rings clean
+    unfolding cleanSupport planSupport
+    left-support = P .support ∙ ap (λ (x : ℕ). answer x (plannedBytes (s .w) (s .h) (s .n) (boundOf s) part) (λ i. sup)) (sym as-plan)
+
+    left-rings : rings′ ≡ cleanRings s c part sup rings clean
+    unfolding cleanRings planRings
+    left-rings = P .rings ∙ ap (λ (x : ℕ). answer x (plannedRings (s .w) (s .h) (s .n) (boundOf s) part) (λ i. rings)) (sym as-plan)
+
+    pub plan-seven : m ≡ 7 → Padded s part
+    plan-seven e = clean-seven s c part (length sup) (length rings) (length clean) (sym told ∙ e)
+
     -- refused by planning, which leaves its two as they were
-    pub refuses-too : (j : Refusal) → a ≡ Refused j → Cleans s c part sup rings clean (Refused j) sup′ rings′ clean
-    unfolding cleanAnswer cleanSupport cleanRings cleanCleaned planAnswer planSupport planRings
-    refuses-too j e = record {
-      answer = sym e ∙ P .answer ∙ ap (λ (x : ℕ). answer x Done no) (sym as-plan);
-      support = P .support ∙ ap (λ (x : ℕ). answer x (plannedBytes (s .w) (s .h) (s .n) (boundOf s) part) (λ i. sup)) (sym as-plan);
-      rings = P .rings ∙ ap (λ (x : ℕ). answer x (plannedRings (s .w) (s .h) (s .n) (boundOf s) part) (λ i. rings)) (sym as-plan);
-      cleaned = sym (answer-refused r _ (λ i. clean) (λ y. unplanned (sym as-plan ∙ y)));
-    }
-      where
-        unplanned : p ≡ 0 → ⊥
-        unplanned y = go (sym e ∙ P .answer ∙ ap (λ (x : ℕ). answer x Done no) y)
-          where
-            go : Refused j ≡ Done → ⊥
-            go h = let t : _≡_ {A = ℕ} 0 1 = cc in omega arith
+    pub refuses-too : (m ≡ 0 → ⊥) → (j : Refusal) → j ≡ refused s part [] m → Cleans s c part sup rings clean (Refused j) sup′ rings′ clean
+    unfolding cleanAnswer cleanCleaned
+    refuses-too ne j ej = record { answer = ap Refused ej ∙ says-no Done no told ne; support = left-support; rings = left-rings; cleaned = says-no _ (λ i. clean) told ne }
 
     -- planned: what is known then
-    pub planned : a ≡ Done → p ≡ 0
-    unfolding planAnswer
-    planned e = go p (sym (P .answer) ∙ e)
-      where
-        go : (x : ℕ) → answer x Done no ≡ Done → x ≡ 0
-        go zero h = refl
-        go (suc x) h = absurd (let t : _≡_ {A = ℕ} 0 1 = cc in omega arith)
+    module _ (e : m ≡ 0) where
+      pub known : Planable s part (length sup) (length rings)
+      unfolding planRefusal planCases
+      known = planable s part (length sup) (length rings) (sym (P .number) ∙ e)
 
-    pub known : a ≡ Done → Planable s part (length sup) (length rings)
-    unfolding planRefusal planCases
-    known e = planable s part (length sup) (length rings) (planned e)
+      pub support-is : sup′ ≡ plannedBytes (s .w) (s .h) (s .n) (boundOf s) part
+      unfolding planSupport
+      support-is = P .support ∙ answer-fine p _ (λ i. sup) (sym (P .number) ∙ e)
 
-    pub support-is : a ≡ Done → sup′ ≡ plannedBytes (s .w) (s .h) (s .n) (boundOf s) part
-    unfolding planSupport
-    support-is e = P .support ∙ answer-fine p _ (λ i. sup) (planned e)
-
-    -- cleaned
-    pub cleans : a ≡ Done → 0 < s .h → (clean′ : List ℕ)
-        → clean′ ≡ bytesOf (s .w) (s .h) (s .n) (cleanBy (s .w) (s .h) (s .n) (c .0 * c .0) (pixel (s .w) (s .h) part) (pixel (s .w) (s .h) sup′))
-        → Cleans s c part sup rings clean Done sup′ rings′ clean′
-    unfolding cleanAnswer cleanSupport cleanRings cleanCleaned planAnswer planSupport planRings
-    cleans e lh clean′ ec = record {
-      answer = sym e ∙ P .answer ∙ ap (λ (x : ℕ). answer x Done no) (sym as-plan);
-      support = P .support ∙ ap (λ (x : ℕ). answer x (plannedBytes (s .w) (s .h) (s .n) (boundOf s) part) (λ i. sup)) (sym as-plan);
-      rings = P .rings ∙ ap (λ (x : ℕ). answer x (plannedRings (s .w) (s .h) (s .n) (boundOf s) part) (λ i. rings)) (sym as-plan);
-      cleaned = ec ∙ cleaned-bytes (s .w) (s .h) (s .n) (boundOf s) c part sup′ lh (support-is e) ∙ sym (answer-fine r _ (λ i. clean) (as-plan ∙ planned e));
-    }
+      -- cleaned
+      pub cleans : 0 < s .h → (clean′ : List ℕ)
+          → clean′ ≡ bytesOf (s .w) (s .h) (s .n) (cleanBy (s .w) (s .h) (s .n) (c .0 * c .0) (pixel (s .w) (s .h) part) (pixel (s .w) (s .h) sup′))
+          → Cleans s c part sup rings clean Done sup′ rings′ clean′
+      unfolding cleanAnswer cleanCleaned
+      cleans lh clean′ ec = record {
+        answer = says-yes Done no told e refl;
+        support = left-support;
+        rings = left-rings;
+        cleaned = says-yes _ (λ i. clean) told e (ec ∙ cleaned-bytes (s .w) (s .h) (s .n) (boundOf s) c part sup′ lh support-is);
+      }

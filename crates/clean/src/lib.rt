@@ -3,7 +3,6 @@ pub mod closing;
 pub mod far;
 pub mod stack;
 
-use plan::plan;
 use rules::Pixels;
 use rules::Planned;
 use rules::Settings;
@@ -44,7 +43,7 @@ fn refusal(s: Settings, c: Pixels, part: usize, clean: usize) -> u8
     0
 }
 
-// Plans a part, by the planning call itself, and cleans its support: fills support, rings and cleaned support, or refuses and leaves all three as they were.
+// Plans a part, as the planning call does, and cleans its support: fills support, rings and cleaned support, or refuses and leaves all three as they were.
 pub fn clean(
     s: Settings,
     c: Pixels,
@@ -59,12 +58,11 @@ pub fn clean(
     if k != 0 {
         return Planned::Refused(limits::with_part_row(k, s, part));
     }
-    match plan(s, part, support, rings) {
-        Planned::Refused(r) => Planned::Refused(r),
-        Planned::Done => {
-            let rb = limits::row_bytes(s.w);
-            crate::stack::stack(part, support, clean, s.w, s.h, s.n, rb, c);
-            Planned::Done
-        }
+    let m = plan::fill(s, part, support, rings);
+    if m != 0 {
+        return Planned::Refused(limits::with_part_row(m, s, part));
     }
+    let rb = limits::row_bytes(s.w);
+    crate::stack::stack(part, support, clean, s.w, s.h, s.n, rb, c);
+    Planned::Done
 }

@@ -252,9 +252,9 @@ pub padding-first-row :
     judge-says (settings 5 2 3 100 0) (0 ∷ 0 ∷ 0 ∷ 4 ∷ 1 ∷ 0 ∷ []) (each 0 6 (λ x. 0)) (each 0 20 (λ x. 0))
     ∷ judge-says (settings 5 2 3 100 0) (each 0 6 (λ x. 8)) (0 ∷ 0 ∷ 0 ∷ 0 ∷ 2 ∷ 1 ∷ []) (each 0 20 (λ x. 0))
     ∷ judge-says (settings 5 2 3 100 0) (0 ∷ 0 ∷ 0 ∷ 0 ∷ 0 ∷ 7 ∷ []) (7 ∷ 0 ∷ 0 ∷ 0 ∷ 0 ∷ 0 ∷ []) (each 0 20 (λ x. 0))
-    ∷ judge-says (settings 12 2 2 100 0) (0xFF ∷ 0xF0 ∷ 0x0F ∷ 0x18 ∷ 0x00 ∷ 0x01 ∷ 0x00 ∷ 0x00 ∷ []) (each 0 8 (λ x. 0)) (each 0 24 (λ x. 0))
+    ∷ judge-says (settings 12 2 2 100 0) (0xFF ∷ 0xF0 ∷ 0x0F ∷ 0x10 ∷ 0x00 ∷ 0x01 ∷ 0x00 ∷ 0x08 ∷ []) (each 0 8 (λ x. 0)) (each 0 24 (λ x. 0))
     ∷ []
-    ≡ (7 ∷ 1 ∷ 1 ∷ []) ∷ (8 ∷ 2 ∷ 0 ∷ []) ∷ (7 ∷ 2 ∷ 1 ∷ []) ∷ (7 ∷ 0 ∷ 1 ∷ []) ∷ []
+    ≡ (7 ∷ 1 ∷ 1 ∷ []) ∷ (8 ∷ 2 ∷ 0 ∷ []) ∷ (7 ∷ 2 ∷ 1 ∷ []) ∷ (7 ∷ 1 ∷ 0 ∷ []) ∷ []
 unfolding some each first within sized rowBytes rowsOf stackBytes padded paddingSet firstPadded ringsIn settable reachOf reachCases settingCases lengthCases judgeCases
     bothCases stackCases tellRow refused judgeAnswer settings judge-says
 padding-first-row = refl

@@ -32,23 +32,40 @@ planable s part sup k e =
     let l = v .lengths in
     record { range = ranged s (v .settings); part-length = l .part-long; support-length = l .support-long; ring-count = l .ring-count; clean = v .part-clear }
 
-module _ (s : Settings) (part sup rings : List ℕ) (k : ℕ) (ek : k ≡ refusal (stackCases s true part (length sup) (length rings))) where
-  -- a number of 7 is that of padding
-  pub seven : k ≡ 7 → Padded s part
-  seven e = stack-seven s true part (length sup) (length rings) (sym ek ∙ e)
+-- what planning leaves, with its number
+pub record Planning (s : Settings) (part sup ring : List ℕ) (k : ℕ) (sup′ ring′ : List ℕ) : Type 0 where
+  pub number : k ≡ planRefusal s part (length sup) (length ring)
+  pub support : sup′ ≡ planSupport s part sup ring
+  pub rings : ring′ ≡ planRings s part sup ring
 
+module _ (s : Settings) (part sup rings : List ℕ) (k : ℕ) (ek : k ≡ refusal (stackCases s true part (length sup) (length rings))) where
   -- refused: all lent memory as it was
-  pub refuses : (k ≡ 0 → ⊥) → (r : Refusal) → r ≡ refused s part [] k → Plans s part sup rings (Refused r) sup rings
-  unfolding planAnswer planSupport planRings planRefusal planCases
-  refuses ne r er = record { answer = ap Refused er ∙ says-no Done (λ j. Refused (refused s part [] j)) ek ne; support = says-no _ (λ j. sup) ek ne; rings = says-no _ (λ j. rings) ek ne }
+  pub refuses : (k ≡ 0 → ⊥) → Planning s part sup rings k sup rings
+  unfolding planSupport planRings planRefusal planCases
+  refuses ne = record { number = ek; support = says-no _ (λ j. sup) ek ne; rings = says-no _ (λ j. rings) ek ne }
 
   -- planned: the support and the rings of the part
   pub plans : k ≡ 0 → (q : ℕ) → boundOf s ≡ (λ (i : ℕ). q) → (sup' rings' : List ℕ)
       → sup' ≡ plannedBytes (s .w) (s .h) (s .n) (λ i. q) part → rings' ≡ plannedRings (s .w) (s .h) (s .n) (λ i. q) part
-      → Plans s part sup rings Done sup' rings'
-  unfolding planAnswer planSupport planRings planRefusal planCases
+      → Planning s part sup rings 0 sup' rings'
+  unfolding planSupport planRings planRefusal planCases
   plans z q eq sup' rings' es eg = record {
-    answer = says-yes Done (λ j. Refused (refused s part [] j)) ek z refl;
+    number = sym z ∙ ek;
     support = says-yes _ (λ j. sup) ek z (rw eq es);
     rings = says-yes _ (λ j. rings) ek z (rw eq eg);
   }
+
+-- the call: the number as a refusal, or done
+module _ (s : Settings) (part sup rings : List ℕ) (k : ℕ) (sup' rings' : List ℕ) (P : Planning s part sup rings k sup' rings') where
+  -- a number of 7 is that of padding
+  pub seven : k ≡ 7 → Padded s part
+  unfolding planRefusal planCases
+  seven e = stack-seven s true part (length sup) (length rings) (sym (P .number) ∙ e)
+
+  pub refused-plans : (k ≡ 0 → ⊥) → (r : Refusal) → r ≡ refused s part [] k → Plans s part sup rings (Refused r) sup' rings'
+  unfolding planAnswer
+  refused-plans ne r er = record { answer = ap Refused er ∙ says-no Done (λ j. Refused (refused s part [] j)) (P .number) ne; support = P .support; rings = P .rings }
+
+  pub done-plans : k ≡ 0 → Plans s part sup rings Done sup' rings'
+  unfolding planAnswer
+  done-plans z = record { answer = says-yes Done (λ j. Refused (refused s part [] j)) (P .number) z refl; support = P .support; rings = P .rings }

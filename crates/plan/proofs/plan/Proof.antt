@@ -1,60 +1,18 @@
-use mathlib.Core.Path.{_∙_, sym}
-use lib.ListN.{length}
-use Rattle.plan.specs.CallLaws.{planable, seven, refuses, plans}
-use native.Mathlib.Omega.{arith}
 use borrow.Author.Needs.{needs}
+use Rattle.plan.specs.CallLaws.{seven, refused-plans, done-plans}
 use Rattle.plan.proofs.plan.Statement.{statement}
 use Rattle.plan.proofs.plan.Tie as tie
 
-returns : tie.Need-returns
-returns c =
-    let b6 = c .before .before .before .before .before .before in
-    let A = b6 .args in
-    refuses (A .s) (A .part .now) (A .support .now) (A .rings .now) _ (c .before .before .stack-refusal .ensures) (c .before .if1 .taken) _ (c .with-part-row .ensures)
-
 with-part-row-requires : tie.Need-with-part-row-requires
-with-part-row-requires c κs =
-    let A = c .before .before .before .before .before .args in
-    seven (A .s) (A .part .now) (A .support .now) (A .rings .now) _ (c .before .stack-refusal .ensures)
+with-part-row-requires c κs = seven _ _ _ _ _ _ _ (c .before .before .before .before .before .fill .ensures)
 
-bound-of-requires : tie.Need-bound-of-requires
-bound-of-requires c κs =
-    let A = c .before .before .before .before .before .args in
-    planable (A .s) (A .part .now) (length (A .support .now)) (length (A .rings .now)) (sym (c .before .stack-refusal .ensures) ∙ c .if1 .left) .range
-
-row-bytes-requires : tie.Need-row-bytes-requires
-row-bytes-requires c κs =
-    let b6 = c .before .before .before .before .before .before in
-    let A = b6 .args in
-    planable (A .s) (A .part .now) (length (A .support .now)) (length (A .rings .now)) (sym (c .before .before .stack-refusal .ensures) ∙ c .before .if1 .left) .range .w-high
-
-stack-requires : tie.Need-stack-requires
-stack-requires c κs =
-    let b3 = c .before .before .before in let b4 = b3 .before in let b5 = b4 .before in let b9 = b5 .before .before .before .before in
-    let A = b9 .args in
-    let z = sym (b5 .stack-refusal .ensures) ∙ b4 .if1 .left in
-    let Q = planable (A .s) (A .part .now) (length (A .support .now)) (length (A .rings .now)) z in
-    let R = Q .range in (
-      (
-        record { sizes = record { w-min = omega (arith, R .w-low); w-max = R .w-high; h-min = omega (arith, R .h-low); h-max = R .h-high }; bytes = c .before .before .row-bytes .ensures .0 },
-        b3 .bound-of .ensures .1,
-        omega (arith, R .n-low),
-      ),
-      record { part-long = Q .part-length; clean = Q .clean; support-long = Q .support-length; rings-long = Q .ring-count },
-    )
+returns : tie.Need-returns
+returns c = refused-plans _ _ _ _ _ _ _ (c .before .before .before .before .before .before .fill .ensures) (c .before .if1 .taken) _ (c .with-part-row .ensures)
 
 returns-2 : tie.Need-returns-2
-returns-2 c =
-    let b4 = c .before .before .before .before in let b8 = b4 .before .before .before .before in let b9 = b8 .before in let b10 = b9 .before in
-    let b14 = b10 .before .before .before .before in
-    let A = b14 .args in
-    let W = b4 .stack in
-    let q = b8 .bound-of in
-    let k = b10 .stack-refusal .ensures in
-    let z = b9 .if1 .left in
-    plans (A .s) (A .part .now) (A .support .now) (A .rings .now) _ k z (q .result .0) (q .ensures .0) (W .last .1 .0) (W .last .1 .1 .0) (W .ensures .0) (W .ensures .1)
+returns-2 c = done-plans _ _ _ _ _ _ _ (c .before .before .before .before .before .fill .ensures) (c .if1 .left)
 
 pub plan-spec : {M : Type 1} → statement M
 plan-spec =
     tie.close
-    (tie.spec (λ c κs. search needs) with-part-row-requires returns bound-of-requires row-bytes-requires stack-requires (λ c. search needs) (λ c. search needs) returns-2)
+    (tie.spec (λ c κs. search needs) with-part-row-requires (λ c. search needs) (λ c. search needs) returns (λ c. search needs) (λ c. search needs) returns-2)
