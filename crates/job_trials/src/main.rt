@@ -1,47 +1,17 @@
 // Runs the calls on job files: every cut, wrong counts, bytes after the end, padding, single layers, and the longest job that
 // 64 KiB hold, written, read back and written again. Each line has the numbers that the calls answered.
-use libc::STDOUT_FILENO;
 use rules::CopiedRings;
 use rules::Micrometres;
 use rules::ReadJob;
 use rules::Refusal;
 use rules::Settings;
 use rules::WrittenJob;
+use shown::say;
+use shown::show;
+use shown::show_refusal;
 ghost use mathlib.Core.Path.{_≡_};
 ghost use Prim.Native.Nat.{_≤_};
 ghost use lib.ListN.{length};
-
-fn say(text: &[u8]) {
-    io::write_all(STDOUT_FILENO, text);
-}
-
-// A number, after a space.
-fn show(n: u64) {
-    say(b" ");
-    io::print_decimal(STDOUT_FILENO, n);
-}
-
-fn wide(n: usize) -> u64 {
-    n as u64
-}
-
-// A refusal: its number, and its place where it has one.
-fn show_refusal(r: Refusal) {
-    match r {
-        Refusal::Number(k) => show(k as u64),
-        Refusal::InRow(k, at) => {
-            show(k as u64);
-            show(wide(at.layer));
-            show(wide(at.row));
-        }
-        Refusal::AtPixel(k, at) => {
-            show(k as u64);
-            show(wide(at.layer));
-            show(wide(at.row));
-            show(wide(at.column));
-        }
-    }
-}
 
 fn number(r: Refusal) -> u64 {
     match r {
@@ -195,7 +165,7 @@ fn round(
     again: &mut [u8],
 ) {
     let n = written(job::write(s, part, support, rings, out), out.len());
-    show(wide(n));
+    show(n as u64);
     show_back(&out[..n], part, support, rings, back);
     show_again(s, &out[..n], back, again);
 }

@@ -1,7 +1,7 @@
 -- Demand 1 of the checking call itself: its numbers 1 to 8 exactly when its table gives them, and 9, 10, 11 and 19 at their first place and
 -- acceptance exactly when the table gives none. And the verdict against that of before, which told every unheld pixel as 11.
 use mathlib.Core.Path.{_≡_, refl, sym, ap, _∙_}
-use mathlib.Core.Logic.{_↔_}
+use mathlib.Core.Logic.{_↔_, Iff·rfl, Iff·trans, Iff·and}
 use mathlib.Core.Bool.{Bool, true, false, _&&_, _||_, cond}
 use mathlib.Core.List.{List, [], _∷_}
 use Prim.Native.Nat.{ℕ, zero, suc, _+_, _-_, _*_, _/_, _%_, _≤_, _<_}
@@ -187,18 +187,16 @@ module _ (s : Settings) (part sup l : List ℕ) where
       (NoneGiven table × FirstAt (s .w) (s .h) (s .n) 0 overlaps (record { layer = i; row = r; column = c }))
   unfolding verdictOf
   judge-overlap i r c =
-      let t = judge-finds 9 i r c in
-      let o = told-overlap (s .w) (s .h) (s .n) (boundOf s) P T (ringAt (s .w) (s .h) l) (record { layer = i; row = r; column = c }) in
-      ((λ e. let (n, v) = t .0 e in (n, o .0 v)), (λ (n, a). t .1 (n, o .1 a)))
+      Iff·trans (judge-finds 9 i r c) (Iff·and Iff·rfl (
+      told-overlap (s .w) (s .h) (s .n) (boundOf s) P T (ringAt (s .w) (s .h) l) (record { layer = i; row = r; column = c })))
 
   -- 10: the first bad ring, where no pixel overlaps
   pub judge-bad-ring : (i r c : ℕ) → (saysJudged (judgeAnswer s part sup l) ≡ 10 ∷ i ∷ r ∷ c ∷ []) ↔
       (NoneGiven table × (Nowhere (s .w) (s .h) (s .n) overlaps × FirstAt (s .w) (s .h) (s .n - 1) 1 bad-rings (record { layer = i; row = r; column = c })))
   unfolding verdictOf
   judge-bad-ring i r c =
-      let t = judge-finds 10 i r c in
-      let o = told-bad-ring (s .w) (s .h) (s .n) (boundOf s) P T (ringAt (s .w) (s .h) l) (record { layer = i; row = r; column = c }) in
-      ((λ e. let (n, v) = t .0 e in (n, o .0 v)), (λ (n, a). t .1 (n, o .1 a)))
+      Iff·trans (judge-finds 10 i r c) (Iff·and Iff·rfl (
+      told-bad-ring (s .w) (s .h) (s .n) (boundOf s) P T (ringAt (s .w) (s .h) l) (record { layer = i; row = r; column = c })))
 
   -- 11 and 19: the first unheld pixel, where no pixel overlaps and no ring is bad, and the number is read off there
   pub judge-unheld : (k i r c : ℕ) → (9 ≡ k → ⊥) → (10 ≡ k → ⊥) → (saysJudged (judgeAnswer s part sup l) ≡ k ∷ i ∷ r ∷ c ∷ []) ↔
@@ -207,9 +205,8 @@ module _ (s : Settings) (part sup l : List ℕ) where
       × (cond (P i (r * s .w + c)) 11 19 ≡ k)))
   unfolding verdictOf
   judge-unheld k i r c n9 n10 =
-      let t = judge-finds k i r c in
-      let o = told-unheld (s .w) (s .h) (s .n) (boundOf s) P T (ringAt (s .w) (s .h) l) k (record { layer = i; row = r; column = c }) n9 n10 in
-      ((λ e. let (n, v) = t .0 e in (n, o .0 v)), (λ (n, a). t .1 (n, o .1 a)))
+      Iff·trans (judge-finds k i r c) (Iff·and Iff·rfl (
+      told-unheld (s .w) (s .h) (s .n) (boundOf s) P T (ringAt (s .w) (s .h) l) k (record { layer = i; row = r; column = c }) n9 n10))
 
   -- "11 only for a part pixel"
   pub judge-part-hangs : (i r c : ℕ) → (saysJudged (judgeAnswer s part sup l) ≡ 11 ∷ i ∷ r ∷ c ∷ []) ↔

@@ -1,6 +1,6 @@
 -- The report: its example, and that a printed number is the number.
 use mathlib.Core.Path.{_≡_, refl, sym, ap, ap₂, _∙_}
-use mathlib.Core.Logic.{_↔_}
+use mathlib.Core.Logic.{_↔_, Iff·trans}
 use mathlib.Core.Bool.{Bool, true, false, cond}
 use mathlib.Core.List.{List, [], _∷_, _++_, append-nil, append-assoc}
 use Prim.Native.Nat.{ℕ, zero, suc, _+_, _-_, _*_, _/_, _%_, _≤_, _<_}
@@ -251,16 +251,10 @@ module _ (f : List ℕ) where
 
   -- `refused 7 1 0` and its like: 7 is printed with the first row of the part whose padding is set, and 8 with that of the support
   pub report-part-row : (i r : ℕ) → (reportOf f ≡ refusedLine (7 ∷ i ∷ r ∷ [])) ↔ (Given 7 (reportCases f) × FirstRow (settingsIn f .w) (settingsIn f .h) (settingsIn f .n) (partIn f) i r)
-  report-part-row i r =
-      let line = report-line 6 (i ∷ r ∷ []) in
-      let row = report-tells .part-row i r in
-      ((λ e. row .0 (line .0 e)), (λ g. line .1 (row .1 g)))
+  report-part-row i r = Iff·trans (report-line 6 (i ∷ r ∷ [])) (report-tells .part-row i r)
 
   pub report-support-row : (i r : ℕ) → (reportOf f ≡ refusedLine (8 ∷ i ∷ r ∷ [])) ↔ (Given 8 (reportCases f) × FirstRow (settingsIn f .w) (settingsIn f .h) (settingsIn f .n) (supportIn f) i r)
-  report-support-row i r =
-      let line = report-line 7 (i ∷ r ∷ []) in
-      let row = report-tells .support-row i r in
-      ((λ e. row .0 (line .0 e)), (λ g. line .1 (row .1 g)))
+  report-support-row i r = Iff·trans (report-line 7 (i ∷ r ∷ [])) (report-tells .support-row i r)
 
 pub take-all : (n : ℕ) (l : List ℕ) → length l ≤ n → take n l ≡ l
 take-all n l h = sym (append-nil (take n l)) ∙ ap (λ (x : List ℕ). take n l ++ x) (sym (drop-of-length-le l h)) ∙ take-append-drop n l

@@ -2,31 +2,18 @@
 // support in hexadecimal and its rings; a cleaned one its number, its planned support and its cleaned; a checked one its number and place.
 use clean::clean;
 use judge::judge;
-use libc::STDOUT_FILENO;
 use plan::plan;
 use rules::Judged;
 use rules::Micrometres;
 use rules::Pixels;
 use rules::Planned;
-use rules::Refusal;
 use rules::Settings;
+use shown::say;
+use shown::show;
+use shown::show_refusal;
 ghost use mathlib.Core.Path.{_≡_};
 ghost use Prim.Native.Nat.{_≤_, _<_};
 ghost use lib.ListN.{length};
-
-fn say(text: &[u8]) {
-    io::write_all(STDOUT_FILENO, text);
-}
-
-// A number, after a space.
-fn show(n: u64) {
-    say(b" ");
-    io::print_decimal(STDOUT_FILENO, n);
-}
-
-fn wide(n: usize) -> u64 {
-    n as u64
-}
 
 fn digit(n: u8) -> u8
     requires { ⌜ n < 16 ⌝ }
@@ -65,24 +52,6 @@ fn settings(w: usize, h: usize, n: usize, pitch: u32, overhang: u32) -> Settings
         n,
         pitch: Micrometres(pitch),
         overhang: Micrometres(overhang),
-    }
-}
-
-// A refusal: its number, and its place where it has one.
-fn show_refusal(r: Refusal) {
-    match r {
-        Refusal::Number(k) => show(k as u64),
-        Refusal::InRow(k, at) => {
-            show(k as u64);
-            show(wide(at.layer));
-            show(wide(at.row));
-        }
-        Refusal::AtPixel(k, at) => {
-            show(k as u64);
-            show(wide(at.layer));
-            show(wide(at.row));
-            show(wide(at.column));
-        }
     }
 }
 
