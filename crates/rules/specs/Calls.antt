@@ -1,14 +1,15 @@
 -- Rules 6: for each call its refusals in their order, its answer, and what the lent memory holds afterwards.
-use mathlib.Core.Bool.{Bool, true, not, cond}
+use mathlib.Core.Bool.{Bool, true, not, _||_, cond}
 use mathlib.Core.List.{List, [], _∷_, _++_}
 use Prim.Native.Nat.{ℕ, _+_, _*_, _/_, _%_}
 use lib.Dec.{ltb, eqb}
 use lib.ListN.{length}
 use Rattle.rules.specs.Tools.{Found, nothing, found, Case, _when_, refusal, answer}
 use Rattle.rules.specs.Images.{rowBytes, sized, rowsOf, stackBytes, ringsIn, paddingSet, firstPadded}
-use Rattle.rules.specs.Reach.{settable, reachOf, mostReach, boundOf}
+use Rattle.rules.specs.Reach.{settable, reachOf, mostReach, boundBy, boundOf}
 use Rattle.rules.specs.Planning.{plannedRings, plannedBytes}
 use Rattle.rules.specs.Cleaning.{mostGap, cleanedBytes}
+use Rattle.rules.specs.Posts.{postsBytes}
 use Rattle.rules.specs.Judging.{verdictOf}
 use Rattle.rules.specs.Jobs.{Job, be32, headEnd, partEnd, supportCount, supportEnd, ringCount, jobEnd, settingsIn, storedIn, partIn, supportIn}
 use Rattle.rules.specs.Jobs.{ringsStored, layoutOf, fileOf, fileLength, over}
@@ -169,6 +170,28 @@ cleanRings s c part support rings clean =
 unfoldable pub cleanCleaned : Settings → Pixels → List ℕ → List ℕ → List ℕ → List ℕ → List ℕ
 cleanCleaned s c part support rings clean =
     answer (cleanRefusal s c part (length support) (length rings) (length clean)) (cleanedBytes (s .w) (s .h) (s .n) (boundOf s) c part) (λ k. clean)
+
+-- Rule 6.11, posts: part is read, the posts are lent -----------------------------------------------------------------------------------
+
+-- "20 for a radius or its reach over those limits", which are the overhang's own; no rings are lent, so there is no 6
+unfoldable pub postsCases : Settings → Micrometres → List ℕ → ℕ → List Case
+postsCases s r part posts =
+    settingCases s
+    ++ (20 when not (settable (s .pitch) r) || ltb mostReach (reachOf (s .pitch) r .0))
+    ∷ (4 when not (eqb (length part) (stackBytes s)))
+    ∷ (5 when not (eqb posts (stackBytes s)))
+    ∷ (7 when paddingSet (s .w) (rowsOf s) part)
+    ∷ []
+
+unfoldable pub postsRefusal : Settings → Micrometres → List ℕ → ℕ → ℕ
+postsRefusal s r part posts = refusal (postsCases s r part posts)
+
+unfoldable pub postsAnswer : Settings → Micrometres → List ℕ → ℕ → Planned
+postsAnswer s r part posts = answer (postsRefusal s r part posts) Done (λ k. NotPlanned (refused s part [] k))
+
+unfoldable pub postsPosts : Settings → Micrometres → List ℕ → List ℕ → List ℕ
+postsPosts s r part posts =
+    answer (postsRefusal s r part (length posts)) (postsBytes (s .w) (s .h) (s .n) (boundOf s) (boundBy (s .pitch) r .0) part) (λ k. posts)
 
 -- Rule 6.3, judging ------------------------------------------------------------------------------------------------------------------
 

@@ -4,6 +4,7 @@ pub mod Images
 pub mod Reach
 pub mod Planning
 pub mod Cleaning
+pub mod Posts
 pub mod Judging
 pub mod Jobs
 pub mod Calls

@@ -7,7 +7,7 @@ use Prim.Native.Nat.{ℕ}
 use lib.ListN.{length}
 use Rattle.rules.specs.Jobs.{Job, over}
 use Rattle.rules.specs.Calls.{reachAnswer, planAnswer, planSupport, planRings, judgeAnswer, readAnswer, partAnswer, supportAnswer, copyAnswer, copyRings}
-use Rattle.rules.specs.Calls.{cleanAnswer, cleanSupport, cleanRings, cleanCleaned, writeAnswer, writeTo}
+use Rattle.rules.specs.Calls.{cleanAnswer, cleanSupport, cleanRings, cleanCleaned, postsAnswer, postsPosts, writeAnswer, writeTo}
 use Rattle.rules.specs.Report.{textOf}
 use Rattle.rules.specs.declared.Micrometres.{Micrometres}
 use Rattle.rules.specs.declared.Pixels.{Pixels}
@@ -35,6 +35,11 @@ pub record Cleans (s : Settings) (c : Pixels) (part sup ring clean : List ℕ) (
   pub support : sup′ ≡ cleanSupport s c part sup ring clean
   pub rings : ring′ ≡ cleanRings s c part sup ring clean
   pub cleaned : clean′ ≡ cleanCleaned s c part sup ring clean
+
+-- posts: old and new are what the lent memory held and holds afterwards
+pub record Posts (s : Settings) (r : Micrometres) (part old : List ℕ) (a : Planned) (new : List ℕ) : Type 0 where
+  pub answer : a ≡ postsAnswer s r part (length old)
+  pub posts : new ≡ postsPosts s r part old
 
 -- check: what is lent is only read
 pub record Judges (s : Settings) (part sup ring : List ℕ) (r : Judged) : Type 0 where

@@ -44,7 +44,7 @@ pub enum Reached {
     Refused(u8),
 }
 
-// The answer of planning, and of cleaning.
+// The answer of planning, of cleaning and of posts.
 pub enum Planned {
     Done,
     Refused(Refusal),
