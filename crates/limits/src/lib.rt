@@ -85,7 +85,7 @@ pub fn bound_of(s: Settings) -> Bound
 }
 
 // The refusal of a pitch and an overhang, 0 for none.
-fn reach_refusal(pitch: Micrometres, overhang: Micrometres) -> u8
+pub fn reach_refusal(pitch: Micrometres, overhang: Micrometres) -> u8
     ensures { λ r. ⌜ r ≡ refusal (reachCases pitch overhang) ⌝ }
 {
     if !settable(pitch, overhang) {

@@ -14,7 +14,7 @@ ghost use Rattle.pair.specs.Found.{Sized, Spare};
 ghost use Rattle.plan.specs.Stacks.{Buffers, Down};
 
 // Copies a plane.
-fn put(from: &[u8], to: &mut [u8])
+pub fn put(from: &[u8], to: &mut [u8])
     requires { ⌜ length (now to) ≡ length (now from) ⌝ }
     ensures { λ _. ⌜ now (to .exit) ≡ now (from .entry) ⌝ }
 {

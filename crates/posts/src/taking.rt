@@ -4,6 +4,8 @@ use rules::Bound;
 use rules::Pixels;
 use words::Row;
 ghost use mathlib.Core.Path.{_≡_};
+ghost use mathlib.Core.List.{List};
+ghost use mathlib.Core.Logic.{_⊎_};
 ghost use mathlib.Core.Bool.{true, false, not, _&&_};
 ghost use Prim.Native.Nat.{ℕ, min, _+_, _-_, _*_, _/_, _<_, _≤_};
 ghost use lib.Dec.{leb, ltb, eqb};
@@ -14,7 +16,7 @@ ghost use Rattle.laws.specs.Discs.{Halves};
 ghost use Rattle.words.specs.Words.{column, wordBit, Within};
 ghost use Rattle.planes.specs.Scratch.{Sizes, Ready, seen, spot};
 ghost use Rattle.pair.specs.Found.{Empty};
-ghost use Rattle.posts.specs.Taking.{Along, Looked, Grown};
+ghost use Rattle.posts.specs.Taking.{Along, Looked, Taking, Ahead, Closed};
 
 // The two words of l from word i on, as a row of 128 columns.
 fn two(l: &[u64], i: usize) -> Row
@@ -59,7 +61,7 @@ fn along(x: Row, free: Row) -> Row
         words::rows::both(words::rows::wide(s, Pixels(1)), free),
         s,
     );
-    while words::rows::some(more) {
+    while words::rows::any(more) {
         s = words::rows::either(s, more);
         more = words::rows::but_not(
             words::rows::both(words::rows::wide(s, Pixels(1)), free),
@@ -73,7 +75,7 @@ fn along(x: Row, free: Row) -> Row
 // longer. Tells whether there was something.
 fn look(rest: &mut [u64], got: &mut [u64], i: usize, disc: Row) -> bool
     requires { ⌜ (length (now rest) ≡ 1610) × (length (now got) ≡ 1610) × (5 ≤ i) × (i + 7 ≤ 1610) ⌝ }
-    ensures { λ d. ⌜ Looked i (column disc) d (now (rest .entry)) (now (got .entry)) (now (rest .exit)) (now (got .exit)) ⌝ }
+    ensures { λ d. ⌜ ((k b : ℕ) → i ≡ k * 5 + b → b ≤ 2 → Looked k b (column disc) d (now (rest .entry)) (now (got .entry)) (now (rest .exit)) (now (got .exit))) ⌝ }
 {
     let free = words::rows::both(two(rest, i), disc);
     if !words::rows::any(free) {
@@ -84,7 +86,7 @@ fn look(rest: &mut [u64], got: &mut [u64], i: usize, disc: Row) -> bool
         two(got, i + 5),
     );
     let new = words::rows::both(words::rows::wide(three, Pixels(1)), free);
-    if !words::rows::some(new) {
+    if !words::rows::any(new) {
         return false;
     }
     let s = along(new, free);
@@ -110,7 +112,10 @@ fn word_of(c: usize) -> usize
 
 // Grows from the pixel in row y and column c, which is got already. Where a row changed, the one before it is looked at again, so that no row before
 // row d can change. Answers how many rows have something.
-fn grow(rest: &mut [u64], got: &mut [u64], y: usize, c: usize, half: &[usize]) -> usize
+fn grow(rest: &mut [u64], got: &mut [u64], y: usize, c: usize, q: Bound, half: &[usize]) -> usize
+    requires { ⌜ (length (now rest) ≡ 1610) × (length (now got) ≡ 1610) × (y < 256) × (c < 256) × (q .0 ≤ mostBound) × Halves (q .0) (now half) ⌝ }
+    ensures { λ n. ⌜ ((was : List ℕ) → Ahead y c was → Taking (q .0) y c 1 was (now (rest .entry)) (now (got .entry))
+        → Taking (q .0) y c n was (now (rest .exit)) (now (got .exit)) × Closed (q .0) y c (now (rest .exit)) (now (got .exit))) × (n ≤ 33) ⌝ }
 {
     let b = word_of(c);
     let x = c - b * 64;
@@ -133,6 +138,8 @@ fn grow(rest: &mut [u64], got: &mut [u64], y: usize, c: usize, half: &[usize]) -
 
 // Empties the two words from word i on, and those below them, in so many rows.
 fn wipe(got: &mut [u64], i: usize, rows: usize)
+    requires { ⌜ (length (now got) ≡ 1610) × (rows ≤ 33) × (i + 5 * rows ≤ 1608) ⌝ }
+    ensures { λ _. ⌜ ((j : ℕ) → wordBit (now (got .exit)) j ≡ true → (wordBit (now (got .entry)) j ≡ true) × ((d : ℕ) → d < rows → i * 64 + d * 320 ≤ j → j < i * 64 + d * 320 + 128 → ⊥)) ⌝ }
 {
     let mut d = 0;
     while d < rows {
@@ -160,6 +167,6 @@ pub fn take(
     let i = (y + 33) * 5 + c / 64;
     sweeps::marks::clear_bit(rest, i, c % 64);
     sweeps::marks::set_bit(got, i, c % 64);
-    let rows = grow(rest, got, y, c, half);
+    let rows = grow(rest, got, y, c, q, half);
     wipe(got, (y + 33) * 5 + word_of(c), rows);
 }

@@ -1,22 +1,23 @@
 -- Laws of the single bits of a word, and of a number written at each of them.
 use mathlib.Core.Path.{_≡_, refl, sym, ap, _∙_}
 use mathlib.Core.Bool.{Bool, true, false, not, _&&_, cond}
-use mathlib.Core.List.{List}
+use mathlib.Core.List.{List, [], _∷_}
 use Prim.Native.Nat.{ℕ, zero, suc, _+_, _-_, _*_, _/_, _%_, _^_, _<_, _≤_}
-use native.Mathlib.Nat.{pow-suc, pow-succ', one-mul, add-mul, mul-assoc, mod-self}
+use native.Mathlib.Nat.{pow-suc, pow-succ', one-mul, add-mul, mul-assoc, mod-self, lt-of-lt-of-le}
 use native.Mathlib.Omega.{arith}
 use native.Mathlib.Decide.{decLt, ℕ-discrete}
 use borrow.Author.Tests.{eq-eqb, ne-eqb}
 use lib.Arith.{digits-div, digits-mod}
-use lib.Bits.{bitAnd, and-le-r, and-block, and-self, and-mask}
+use lib.Bits.{bitAnd, bitOr, and-le-r, and-block, and-self, and-mask}
 use lib.Count.{leadingZeros, leading-top, trailingZeros, under}
 use lib.Dec.{eqb}
 use lib.ListN.{length, getD, set, length-set}
-use lib.Pow.{shl-exact, shl-shr, pow-add, pow-pos, pow-lt}
+use lib.Pow.{shl-exact, shl-shr, pow-add, pow-pos, pow-lt, pow-mono}
 use lib.Seq.{getD-set-same, getD-set-other}
 use Rattle.laws.specs.Tests.{and-l, and-true}
-use Rattle.words.specs.Words.{place, bitOfWord, Digits, lastBit, Numbered}
+use Rattle.words.specs.Words.{place, bitOfWord, wordBit, Digits, lastBit, Numbered}
 use Rattle.words.specs.Digits.{place-shr, place-mod-below, place-small, place-zero}
+use Rattle.words.specs.WordLaws.{flat-here}
 
 one-place-low : (d e : ℕ) → place (2 ^ (suc d + e)) e ≡ false
 unfolding place
@@ -57,13 +58,43 @@ one-bit k lk a =
       | no q ↦ ne-eqb d (63 - k) (λ y. q (omega arith)) ∙ sym (ne-eqb (a + i) (a + k) (λ y. q (omega arith)))
     ]
 
-pub first-bit : (x : ℕ) → 0 < x → x < 2 ^ 64 → (leadingZeros 64 x < 64) × (bitOfWord x (leadingZeros 64 x) ≡ true)
+pub first-bit : (x : ℕ) → 0 < x → x < 2 ^ 64
+    → (leadingZeros 64 x < 64) × (bitOfWord x (leadingZeros 64 x) ≡ true) × ((i : ℕ) → i < leadingZeros 64 x → bitOfWord x i ≡ false)
 unfolding bitOfWord
 first-bit x pos small =
     let t = leading-top 64 x pos small in
     let e : leadingZeros 64 x + suc (t .0) ≡ 64 = t .1 in
     let j : 63 - leadingZeros 64 x ≡ t .0 = omega arith in
-    (omega arith, rw j (one-place-here x (t .0) (t .2) (t .3)))
+    (omega arith, rw j (one-place-here x (t .0) (t .2) (t .3)), (λ i l. place-small x (63 - i) (lt-of-lt-of-le (t .3) (pow-mono (omega arith)))))
+
+-- a word that is not 0 has a bit, and so a row has one whose words are not all 0
+pub rows-some : (a b c d : ℕ) → a < 2 ^ 64 → b < 2 ^ 64 → c < 2 ^ 64 → d < 2 ^ 64 → (bitOr (bitOr (bitOr a b) c) d ≡ 0 → ⊥)
+    → (k : ℕ) × (k < 256) × (wordBit (a ∷ b ∷ c ∷ d ∷ []) k ≡ true)
+unfolding bitOfWord
+rows-some a b c d la lb lc ld n = elim (decLt 0 a) [
+  | yes p ↦ word 0 p la (omega arith)
+  | no p ↦ elim (decLt 0 b) [
+    | yes q ↦ word 1 q lb (omega arith)
+    | no q ↦ elim (decLt 0 c) [
+      | yes r ↦ word 2 r lc (omega arith)
+      | no r ↦ elim (decLt 0 d) [
+        | yes s ↦ word 3 s ld (omega arith)
+        | no s ↦
+            let (ea, eb, ec, ed) : (a ≡ 0) × (b ≡ 0) × (c ≡ 0) × (d ≡ 0) = (omega arith, omega arith, omega arith, omega arith) in
+            absurd (n (rw (ea, eb, ec, ed) refl))
+      ]
+    ]
+  ]
+]
+  where
+    l : List ℕ
+    l = a ∷ b ∷ c ∷ d ∷ []
+
+    word : (q : ℕ) → 0 < getD l q 0 → getD l q 0 < 2 ^ 64 → q < 4 → (k : ℕ) × (k < 256) × (wordBit l k ≡ true)
+    word q p s lq =
+        let (x, y, z) = first-bit (getD l q 0) p s in
+        let t : ℕ = leadingZeros 64 (getD l q 0) in
+        (q * 64 + t, omega arith, flat-here 64 l q (63 - t) t (omega arith) ∙ y)
 
 mirror : (i k : ℕ) → i < 64 → k < 64 → eqb (63 - i) (63 - k) ≡ eqb i k
 mirror i k li lk = elim (ℕ-discrete i k) [

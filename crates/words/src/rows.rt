@@ -4,7 +4,7 @@ use crate::Two;
 use rules::Pixels;
 ghost use mathlib.Core.Path.{_≡_};
 ghost use mathlib.Core.List.{[], _∷_};
-ghost use mathlib.Core.Bool.{Bool, false, not, _&&_, _||_};
+ghost use mathlib.Core.Bool.{Bool, true, false, not, _&&_, _||_};
 ghost use Prim.Native.Nat.{ℕ, _+_, _-_, _*_, _^_, _<_, _≤_};
 ghost use lib.Count.{ones};
 ghost use lib.Dec.{ltb};
@@ -261,11 +261,19 @@ pub fn but_not(x: Row, y: Row) -> Row
     }
 }
 
+fn any_words(a: u64, b: u64, c: u64, d: u64) -> bool
+    ensures { λ r. ⌜ (r ≡ false → (k : ℕ) → wordBit (a ∷ b ∷ c ∷ d ∷ []) k ≡ false) ⌝ }
+    ensures { λ r. ⌜ (r ≡ true → (k : ℕ) × (k < 256) × (wordBit (a ∷ b ∷ c ∷ d ∷ []) k ≡ true)) ⌝ }
+{
+    a | b | c | d != 0
+}
+
 // Whether there is a pixel.
 pub fn any(x: Row) -> bool
     ensures { λ d. ⌜ (d ≡ false → (c : ℕ) → column x c ≡ false) ⌝ }
+    ensures { λ d. ⌜ (d ≡ true → (c : ℕ) × (c < 256) × (column x c ≡ true)) ⌝ }
 {
-    x.a | x.b | x.c | x.d != 0
+    any_words(x.a, x.b, x.c, x.d)
 }
 
 // How many bits of a word are set. That x is below 2^64 is told too: a proof about a row has no other way to know it of its words.

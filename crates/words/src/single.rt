@@ -17,7 +17,7 @@ pub fn bit(k: usize) -> u64
 // The first bit that is set.
 pub fn first(x: u64) -> usize
     requires { ⌜ 0 < x ⌝ }
-    ensures { λ r. ⌜ (r < 64) × (bitOfWord x r ≡ true) ⌝ }
+    ensures { λ r. ⌜ (r < 64) × (bitOfWord x r ≡ true) × ((i : ℕ) → i < r → bitOfWord x i ≡ false) ⌝ }
 {
     u64::leading_zeros(x) as usize
 }

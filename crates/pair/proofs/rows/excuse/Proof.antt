@@ -69,7 +69,7 @@ loop-again-2 c =
     let r = c .before .before .row in (
       o .1,
       excused-next _ _ _ _ _ (p .0) (p .2) (p .3) (p .4) (s .y) _ _ _ t (omega arith) refl
-          (excused-empty _ _ _ _ _ (p .0) (p .2) (p .3) (p .4) (s .y) (column (r .result)) _ _ t (r .ensures) (c .before .any .ensures (c .if1 .left)) (s .inv .1)),
+          (excused-empty _ _ _ _ _ (p .0) (p .2) (p .3) (p .4) (s .y) (column (r .result)) _ _ t (r .ensures) (c .before .any .ensures .0 (c .if1 .left)) (s .inv .1)),
     )
 
 returns : tie.Need-returns Inv-loop μ-loop

@@ -12,7 +12,7 @@ returns c =
     let seeds = b6 .both in
     let bare = c .before .before .but-not in
     found-none _ _ _ _ _ _ _ _ (column (two .result .up)) (column (two .result .low)) (column (seeds .result)) (column (bare .result)) (λ k. two .ensures k .1)
-    (λ k. two .ensures k .0) (seeds .ensures) (bare .ensures) (b5 .put .ensures) (c .before .any .ensures (not-out _ (c .if1 .taken)))
+    (λ k. two .ensures k .0) (seeds .ensures) (bare .ensures) (b5 .put .ensures) (c .before .any .ensures .0 (not-out _ (c .if1 .taken)))
 
 returns-2 : tie.Need-returns-2
 returns-2 c =

@@ -7,7 +7,7 @@ use Rattle.quick.proofs.pair.near_all.Statement.{statement}
 use Rattle.quick.proofs.pair.near_all.Tie as tie
 
 returns : tie.Need-returns
-returns c = ((λ e k l f. clash f (c .before .any .ensures (not-out _ (c .if1 .taken)) k)), c .before .before .before .before .before .pre .1)
+returns c = ((λ e k l f. clash f (c .before .any .ensures .0 (not-out _ (c .if1 .taken)) k)), c .before .before .before .before .before .pre .1)
 
 near-row-requires : tie.Need-near-row-requires
 near-row-requires c κs =
@@ -21,7 +21,7 @@ returns-2 c =
     let p = b13 .pre in
     let d = b6 .draw .ensures in (
       (λ e k l f. far-near (a .w) (a .h) (a .q .0) (a .r) (a .low .now) _ (column (a .far)) (column (c .before .before .near-row .result)) (column (c .before .but-not .result)) (p .0 .0 .0) d
-          (p .0 .0 .1) (c .before .before .near-row .ensures) (c .before .but-not .ensures) (c .any2 .ensures (not-out _ e)) k l f),
+          (p .0 .0 .1) (c .before .before .near-row .ensures) (c .before .but-not .ensures) (c .any2 .ensures .0 (not-out _ e)) k l f),
       (d .ready, λ e. d),
     )
 

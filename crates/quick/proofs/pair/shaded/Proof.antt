@@ -46,7 +46,7 @@ loop-again c =
       omega arith,
       all-more (Shadeless (a .w) (a .low .now) (a .up .now)) (a .from) (l .r) (l .inv .2)
           (shadeless (a .w) (a .h) (b5 .row-bytes .result) (l .r) (b5 .row-bytes .ensures .0) (a .low .now) (a .up .now) (column (c .before .before .shadow-row .result))
-          (c .before .before .shadow-row .ensures) (c .before .any .ensures (c .if1 .left))),
+          (c .before .before .shadow-row .ensures) (c .before .any .ensures .0 (c .if1 .left))),
     )
 
 pub shaded-spec : {M : Type 1} → statement M

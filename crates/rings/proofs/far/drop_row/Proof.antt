@@ -6,7 +6,7 @@ use Rattle.rings.proofs.far.drop_row.Statement.{statement}
 use Rattle.rings.proofs.far.drop_row.Tie as tie
 
 returns : tie.Need-returns
-returns c = λ w h z fl fr ly. keep-row w h _ _ _ _ (column (c .before .before .row .result)) (c .before .before .row .ensures) (c .before .any .ensures (not-out _ (c .if1 .taken)))
+returns c = λ w h z fl fr ly. keep-row w h _ _ _ _ (column (c .before .before .row .result)) (c .before .before .row .ensures) (c .before .any .ensures .0 (not-out _ (c .if1 .taken)))
 
 returns-2 : tie.Need-returns-2
 returns-2 c =

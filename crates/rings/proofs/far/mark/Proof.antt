@@ -45,7 +45,7 @@ loop-again c =
       b5 .put .kept .0 ∙ b9 .loop .inv .1,
       mark-more _ _ _ _ _ _ (pre .0) (pre .3) (pre .4) _ _ (column (b7 .fresh-row .result)) _ _ (omega arith) (omega arith) refl (b7 .fresh-row .ensures) (b5 .put .ensures) (b9 .loop .inv .2),
       λ e. none-yet _ _ _ _ _ _ (pre .0) (pre .3) (pre .4) _ _ (column (b7 .fresh-row .result)) (omega arith) refl (b7 .fresh-row .ensures)
-          (c .before .before .any .ensures (none-of (b9 .loop .some) (c .before .before .any .result) (sym (c .before .either .ensures) ∙ e) .1))
+          (c .before .before .any .ensures .0 (none-of (b9 .loop .some) (c .before .before .any .result) (sym (c .before .either .ensures) ∙ e) .1))
           (b9 .loop .inv .3 (none-of (b9 .loop .some) (c .before .before .any .result) (sym (c .before .either .ensures) ∙ e) .0)),
     )
 

@@ -63,7 +63,7 @@ loop-again-3 c =
       b5 .loop .inv .3,
       b5 .loop .inv .4,
       (λ e j x y. clean-join (33 * 320) ((b5 .loop .r + 33) * 320) ((b5 .loop .r + 34) * 320) (b5 .loop .marks) (b5 .loop .inv .5 e)
-          (row-clean _ _ (b5 .loop .r) _ _ _ _ (column (c .before .before .row .result)) (b5 .loop .inv .3) (c .before .before .row .ensures) (c .before .any .ensures (c .if1 .left))) j x
+          (row-clean _ _ (b5 .loop .r) _ _ _ _ (column (c .before .before .row .result)) (b5 .loop .inv .3) (c .before .before .row .ensures) (c .before .any .ensures .0 (c .if1 .left))) j x
           (omega arith)),
       b5 .loop .inv .6,
     )

@@ -11,13 +11,13 @@ use Rattle.waves.proofs.rows.wave_row.Tie as tie
 returns : tie.Need-returns
 returns c =
     let b3 = c .before .before .before in let b5 = b3 .before .before in let b6 = b5 .before in let b7 = b6 .before in
-    row-done _ _ _ _ _ _ _ _ _ (column (b7 .row .result)) (b7 .row .ensures) (column (b3 .none .result)) (b3 .none .ensures) (b6 .any .ensures (not-out _ (b5 .if1 .taken)))
+    row-done _ _ _ _ _ _ _ _ _ (column (b7 .row .result)) (b7 .row .ensures) (column (b3 .none .result)) (b3 .none .ensures) (b6 .any .ensures .0 (not-out _ (b5 .if1 .taken)))
     (c .before .before .put .ensures)
 
 returns-2 : tie.Need-returns-2
 returns-2 c =
     let b4 = c .before .before .before .before in let b6 = b4 .before .before in let b10 = b6 .before .before .before .before in
-    row-kept _ _ _ _ _ _ _ _ _ (column (b10 .row .result)) (b10 .row .ensures) (column (b6 .fresh-row .result)) (b6 .fresh-row .ensures) (c .before .any2 .ensures (not-out _ (c .if2 .taken)))
+    row-kept _ _ _ _ _ _ _ _ _ (column (b10 .row .result)) (b10 .row .ensures) (column (b6 .fresh-row .result)) (b6 .fresh-row .ensures) (c .before .any2 .ensures .0 (not-out _ (c .if2 .taken)))
     (b4 .put2 .ensures)
 
 put-requires-3 : tie.Need-put-requires-3
@@ -61,7 +61,7 @@ returns-3 c =
     let b27 = b23 .before .before .before .before in
     row-waved _ _ _ _ _ _ _ _ _ (column (b27 .row .result)) (b27 .row .ensures) (column (b23 .fresh-row .result)) (column (b16 .but-not .result)) (column (b9 .either .result))
     (column (b10 .row2 .result)) _ _ _ _ (b23 .fresh-row .ensures) (b21 .put2 .ensures) (b16 .but-not .ensures) (b14 .put3 .ensures) (b10 .row2 .ensures) (b9 .either .ensures)
-    (b7 .put4 .ensures) (b3 .number-row .ensures) (c .any3 .ensures)
+    (b7 .put4 .ensures) (b3 .number-row .ensures) (c .any3 .ensures .0)
 
 pub wave-row-spec : {M : Type 1} → statement M
 wave-row-spec =
