@@ -57,10 +57,10 @@ pub fn layer(
     q: Bound,
     half: &[usize],
     r: Bound,
-    half_r: &[usize],
+    wide: &[usize],
     ones: &[u16],
 )
-    requires { ⌜ Sizes w h × (n ≡ rowBytes w) × (q .0 ≤ mostBound) × Halves (q .0) (now half) × (r .0 ≤ mostBound) × Halves (r .0) (now half_r) × Ones (now ones) ⌝ }
+    requires { ⌜ Sizes w h × (n ≡ rowBytes w) × (q .0 ≤ mostBound) × Halves (q .0) (now half) × (r .0 ≤ mostBound) × Halves (r .0) (now wide) × Ones (now ones) ⌝ }
     requires { ⌜ Clean w h (now low) × Clean w h (now up) × Clean w h (now above) × Packs w h (λ p. false) (now none) ⌝ }
     requires { ⌜ (length (now out) ≡ h * rowBytes w) × (length (now down) ≡ h * rowBytes w) × (length (now remains) ≡ h * rowBytes w) × (length (now ring) ≡ h * w) ⌝ }
     requires { ⌜ ((p : ℕ) → p < h * w → packed w (now above) p ≡ true → packed w (now up) p ≡ true → ⊥) ⌝ }
@@ -69,7 +69,24 @@ pub fn layer(
     ensures { λ _. ⌜ Spare w h (now (left .exit)) (now (got .exit)) (now (front .exit)) (now (next .exit)) (now (seed .exit)) (now (lower .exit)) (now (ahead .exit)) ⌝ }
 {
     pair::layer(
-        low, up, above, out, ring, left, got, front, next, seed, lower, ahead, w, h, n, q, half, ones,
+        low,
+        up,
+        above,
+        out,
+        ring,
+        left,
+        got,
+        front,
+        next,
+        seed,
+        lower,
+        ahead,
+        w,
+        h,
+        n,
+        q,
+        half,
+        ones,
     );
     if r.0 == 0 {
         return;
@@ -78,9 +95,26 @@ pub fn layer(
         return;
     }
     pair::layer(
-        down, out, none, remains, ring, left, got, front, next, seed, lower, ahead, w, h, n, r, half_r, ones,
+        down,
+        out,
+        none,
+        remains,
+        ring,
+        left,
+        got,
+        front,
+        next,
+        seed,
+        lower,
+        ahead,
+        w,
+        h,
+        n,
+        r,
+        wide,
+        ones,
     );
     plan::stack::put(down, out);
     rings::far::read_plane(remains, lower, w, h, n);
-    crate::scan::scan(lower, got, out, w, h, n, r, half_r);
+    crate::scan::scan(lower, got, out, w, h, n, r, wide);
 }

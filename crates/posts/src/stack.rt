@@ -37,10 +37,10 @@ fn layer_at(
     r: Bound,
     i: usize,
     half: &[usize],
-    half_r: &[usize],
+    wide: &[usize],
     ones: &[u16],
 )
-    requires { ⌜ Sized w h rb × (q .0 ≤ mostBound) × Halves (q .0) (now half) × (r .0 ≤ mostBound) × Halves (r .0) (now half_r) × Ones (now ones) × (suc i < n) ⌝ }
+    requires { ⌜ Sized w h rb × (q .0 ≤ mostBound) × Halves (q .0) (now half) × (r .0 ≤ mostBound) × Halves (r .0) (now wide) × Ones (now ones) × (suc i < n) ⌝ }
     requires { ⌜ Lent w h n (now part) (now posts) × Packs w h (λ p. false) (now none) × (length (now down) ≡ h * rowBytes w) × (length (now remains) ≡ h * rowBytes w) × (length (now ring) ≡ h * w) ⌝ }
     requires { ⌜ Down w h n (q .0) (r .0) (i + 1) (now part) (now posts) (now above) ⌝ }
     requires { ⌜ Spare w h (now left) (now got) (now front) (now next) (now seed) (now lower) (now ahead) ⌝ }
@@ -72,7 +72,7 @@ fn layer_at(
         q,
         half,
         r,
-        half_r,
+        wide,
         ones,
     );
     plan::stack::put(&posts[a..m], above);
@@ -101,10 +101,10 @@ fn layers(
     q: Bound,
     r: Bound,
     half: &[usize],
-    half_r: &[usize],
+    wide: &[usize],
     ones: &[u16],
 )
-    requires { ⌜ Sized w h rb × (q .0 ≤ mostBound) × Halves (q .0) (now half) × (r .0 ≤ mostBound) × Halves (r .0) (now half_r) × Ones (now ones) × (0 < n) ⌝ }
+    requires { ⌜ Sized w h rb × (q .0 ≤ mostBound) × Halves (q .0) (now half) × (r .0 ≤ mostBound) × Halves (r .0) (now wide) × Ones (now ones) × (0 < n) ⌝ }
     requires { ⌜ Lent w h n (now part) (now posts) × Packs w h (λ p. false) (now none) × (length (now down) ≡ h * rowBytes w) × (length (now remains) ≡ h * rowBytes w) × (length (now ring) ≡ h * w) ⌝ }
     requires { ⌜ Down w h n (q .0) (r .0) (n - 1) (now part) (now posts) (now above) ⌝ }
     requires { ⌜ Spare w h (now left) (now got) (now front) (now next) (now seed) (now lower) (now ahead) ⌝ }
@@ -114,7 +114,30 @@ fn layers(
     while 0 < i {
         i -= 1;
         layer_at(
-            part, posts, above, none, down, remains, ring, left, got, front, next, seed, lower, ahead, w, h, n, rb, q, r, i, half, half_r, ones,
+            part,
+            posts,
+            above,
+            none,
+            down,
+            remains,
+            ring,
+            left,
+            got,
+            front,
+            next,
+            seed,
+            lower,
+            ahead,
+            w,
+            h,
+            n,
+            rb,
+            q,
+            r,
+            i,
+            half,
+            wide,
+            ones,
         );
     }
 }
@@ -151,8 +174,8 @@ pub fn stack(
     let mut ahead = [0usize; 257];
     let mut half = [0usize; 33];
     roots::halves(q.0, &mut half);
-    let mut half_r = [0usize; 33];
-    roots::halves(r.0, &mut half_r);
+    let mut wide = [0usize; 33];
+    roots::halves(r.0, &mut wide);
     let mut ones = [0u16; 2048];
     words::ones::fill(&mut ones);
     layers(
@@ -177,7 +200,7 @@ pub fn stack(
         q,
         r,
         &half,
-        &half_r,
+        &wide,
         &ones,
     );
 }

@@ -63,10 +63,7 @@ fn along(x: Row, free: Row) -> Row
     );
     while words::rows::any(more) {
         s = words::rows::either(s, more);
-        more = words::rows::but_not(
-            words::rows::both(words::rows::wide(s, Pixels(1)), free),
-            s,
-        );
+        more = words::rows::but_not(words::rows::both(words::rows::wide(s, Pixels(1)), free), s);
     }
     s
 }
