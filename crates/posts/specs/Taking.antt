@@ -3,7 +3,7 @@ use mathlib.Core.Path.{_≡_}
 use mathlib.Core.Bool.{Bool, true, false, not, _&&_, _||_}
 use mathlib.Core.List.{List}
 use Prim.Native.Nat.{ℕ, _+_, _-_, _*_, _/_, _%_, _<_, _≤_}
-use lib.Dec.{leb}
+use lib.Dec.{leb, ltb}
 use lib.ListN.{length}
 use Rattle.rules.specs.Reach.{square, apart}
 use Rattle.words.specs.Words.{wordBit, Within}
@@ -27,6 +27,13 @@ pub record Along (x free r : ℕ → Bool) : Type 0 where
 -- bits of a plane that are one pixel, or touch
 abbrev pub Beside : ℕ → ℕ → Type 0
 Beside j o = Next (j / 320) (o / 320) × Next (j % 320) (o % 320)
+
+-- the two words from word i on as columns, and those joined with the words above and below them
+abbrev pub twoOf : List ℕ → ℕ → ℕ → Bool
+twoOf l i c = ltb c 128 && wordBit l (i * 64 + c)
+
+abbrev pub threeOf : List ℕ → ℕ → ℕ → Bool
+threeOf l i c = (twoOf l (i - 5) c || twoOf l i c) || twoOf l (i + 5) c
 
 -- the bit's column is one of the 128 from word b of its row on
 abbrev pub Columns : ℕ → ℕ → Type 0
@@ -63,9 +70,9 @@ pub record Taking (q y c rows : ℕ) (was rest got : List ℕ) : Type 0 where
   pub led : (T : ℕ → Bool) → T (spot y c) ≡ true → Spreads (λ j. wordBit was j && discBit q y c j) Beside T → (j : ℕ) → wordBit got j ≡ true → T j ≡ true
   pub deep : (j : ℕ) → wordBit got j ≡ true → (y + 33 ≤ j / 320) × (j / 320 < y + 33 + rows)
 
--- nothing remains before the post
+-- nothing remains before the post, and none but the 256 columns of a row
 abbrev pub Ahead : ℕ → ℕ → List ℕ → Type 0
-Ahead y c was = (j : ℕ) → wordBit was j ≡ true → spot y c ≤ j
+Ahead y c was = (j : ℕ) → wordBit was j ≡ true → (spot y c ≤ j) × (j % 320 < 256)
 
 -- nothing that could still be got remains in the rows before row d of the disc
 abbrev pub ClosedTo : ℕ → ℕ → ℕ → ℕ → List ℕ → List ℕ → Type 0

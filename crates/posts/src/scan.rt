@@ -19,7 +19,7 @@ ghost use Rattle.posts.specs.Scanning.{ScanPlanes, Scanning};
 // Sets column c of the row whose bytes begin at `at`.
 fn set_pixel(out: &mut [u8], at: usize, c: usize)
     requires { ⌜ (c < 256) × (at * 8 + c < length (now out) * 8) ⌝ }
-    ensures { λ _. ⌜ ((j : ℕ) → bitOf (now (out .exit)) j ≡ (eqb (at * 8 + c) j || bitOf (now (out .entry)) j)) ⌝ }
+    ensures { λ _. ⌜ ((j : ℕ) → bitOf (now (out .exit)) j ≡ (bitOf (now (out .entry)) j || eqb (at * 8 + c) j)) ⌝ }
 {
     let i = at + c / 8;
     out[i] = out[i] | (128u8 >> (c % 8));

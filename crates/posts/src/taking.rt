@@ -4,19 +4,18 @@ use rules::Bound;
 use rules::Pixels;
 use words::Row;
 ghost use mathlib.Core.Path.{_≡_};
-ghost use mathlib.Core.List.{List};
-ghost use mathlib.Core.Logic.{_⊎_};
-ghost use mathlib.Core.Bool.{true, false, not, _&&_};
-ghost use Prim.Native.Nat.{ℕ, min, _+_, _-_, _*_, _/_, _<_, _≤_};
+ghost use mathlib.Core.List.{List, [], _∷_};
+ghost use mathlib.Core.Bool.{true, false, not, _&&_, _||_};
+ghost use Prim.Native.Nat.{ℕ, max, _+_, _-_, _*_, _<_, _≤_};
 ghost use lib.Dec.{leb, ltb, eqb};
 ghost use lib.ListN.{length};
 ghost use Rattle.rules.specs.Posts.{spared, planeOf};
 ghost use Rattle.rules.specs.Reach.{mostBound};
 ghost use Rattle.laws.specs.Discs.{Halves};
-ghost use Rattle.words.specs.Words.{column, wordBit, Within};
+ghost use Rattle.words.specs.Words.{column, wordBit, beside, Within};
 ghost use Rattle.planes.specs.Scratch.{Sizes, Ready, seen, spot};
 ghost use Rattle.pair.specs.Found.{Empty};
-ghost use Rattle.posts.specs.Taking.{Along, Looked, Taking, Ahead, Closed};
+ghost use Rattle.posts.specs.Taking.{threeOf, Along, Looked, Taking, Ahead, Closed};
 
 // The two words of l from word i on, as a row of 128 columns.
 fn two(l: &[u64], i: usize) -> Row
@@ -31,13 +30,20 @@ fn two(l: &[u64], i: usize) -> Row
     }
 }
 
+fn put_words(l: &mut [u64], i: usize, a: u64, b: u64)
+    requires { ⌜ i + 2 ≤ length (now l) ⌝ }
+    ensures { λ _. ⌜ ((c d : ℕ) → Within (i * 64) (i * 64 + 128) (λ j. wordBit (a ∷ b ∷ c ∷ d ∷ []) (j - i * 64)) (wordBit (now (l .entry))) (wordBit (now (l .exit)))) ⌝ }
+{
+    l[i] = a;
+    l[i + 1] = b;
+}
+
 // Puts the first 128 columns of a row there.
 fn put_two(l: &mut [u64], i: usize, x: Row)
     requires { ⌜ i + 2 ≤ length (now l) ⌝ }
     ensures { λ _. ⌜ Within (i * 64) (i * 64 + 128) (λ j. column x (j - i * 64)) (wordBit (now (l .entry))) (wordBit (now (l .exit))) ⌝ }
 {
-    l[i] = x.a;
-    l[i + 1] = x.b;
+    put_words(l, i, x.a, x.b);
 }
 
 // The columns within `by` of column x.
@@ -68,8 +74,30 @@ fn along(x: Row, free: Row) -> Row
     s
 }
 
-// Looks at the two words from word i on: what remains there in the columns of the disc and is joined to what is got, is got too and remains no
-// longer. Tells whether there was something.
+// The free columns of the two words from word i on that touch what is got, or are got.
+fn fresh(got: &[u64], i: usize, free: Row) -> Row
+    requires { ⌜ (5 ≤ i) × (i + 7 ≤ length (now got)) ⌝ }
+    ensures { λ r. ⌜ ((c : ℕ) → c < 256 → column r c ≡ (beside 1 (threeOf (now (got .entry)) i) c && column free c)) ⌝ }
+{
+    let three = words::rows::either(
+        words::rows::either(two(got, i - 5), two(got, i)),
+        two(got, i + 5),
+    );
+    words::rows::both(words::rows::wide(three, Pixels(1)), free)
+}
+
+// The columns s of the two words from word i on are got, and remain no longer.
+fn get(rest: &mut [u64], got: &mut [u64], i: usize, s: Row)
+    requires { ⌜ (i + 2 ≤ length (now rest)) × (i + 2 ≤ length (now got)) ⌝ }
+    ensures { λ _. ⌜ Within (i * 64) (i * 64 + 128) (λ j. wordBit (now (rest .entry)) j && not (column s (j - i * 64))) (wordBit (now (rest .entry))) (wordBit (now (rest .exit))) ⌝ }
+    ensures { λ _. ⌜ Within (i * 64) (i * 64 + 128) (λ j. wordBit (now (got .entry)) j || column s (j - i * 64)) (wordBit (now (got .entry))) (wordBit (now (got .exit))) ⌝ }
+{
+    put_two(rest, i, words::rows::but_not(two(rest, i), s));
+    put_two(got, i, words::rows::either(two(got, i), s));
+}
+
+// Looks at the two words from word i on: what remains there in the columns of the disc and is joined to what is got, is got too. Tells whether there
+// was something.
 fn look(rest: &mut [u64], got: &mut [u64], i: usize, disc: Row) -> bool
     requires { ⌜ (length (now rest) ≡ 1610) × (length (now got) ≡ 1610) × (5 ≤ i) × (i + 7 ≤ 1610) ⌝ }
     ensures { λ d. ⌜ ((k b : ℕ) → i ≡ k * 5 + b → b ≤ 2 → Looked k b (column disc) d (now (rest .entry)) (now (got .entry)) (now (rest .exit)) (now (got .exit))) ⌝ }
@@ -78,17 +106,11 @@ fn look(rest: &mut [u64], got: &mut [u64], i: usize, disc: Row) -> bool
     if !words::rows::any(free) {
         return false;
     }
-    let three = words::rows::either(
-        words::rows::either(two(got, i - 5), two(got, i)),
-        two(got, i + 5),
-    );
-    let new = words::rows::both(words::rows::wide(three, Pixels(1)), free);
+    let new = fresh(got, i, free);
     if !words::rows::any(new) {
         return false;
     }
-    let s = along(new, free);
-    put_two(rest, i, words::rows::but_not(two(rest, i), s));
-    put_two(got, i, words::rows::either(two(got, i), s));
+    get(rest, got, i, along(new, free));
     true
 }
 
@@ -99,10 +121,16 @@ fn before(d: usize) -> usize
     if 0 < d { d - 1 } else { d }
 }
 
+fn greater(a: usize, b: usize) -> usize
+    ensures { λ r. ⌜ r ≡ max a b ⌝ }
+{
+    if a < b { b } else { a }
+}
+
 // The first of the two words that have the columns within 32 of column c.
 fn word_of(c: usize) -> usize
     requires { ⌜ c < 256 ⌝ }
-    ensures { λ b. ⌜ (b ≤ 2) × (b * 64 ≤ c) × (c < b * 64 + 128) × (b * 64 ≤ c - 32) × ((c + 32 < b * 64 + 128) ⊎ (b ≡ 2)) ⌝ }
+    ensures { λ b. ⌜ (b ≤ 2) × ((j : ℕ) → j < 256 → c ≤ j + 32 → j ≤ c + 32 → (b * 64 ≤ j) × (j < b * 64 + 128)) ⌝ }
 {
     numbers::lesser(numbers::less(c, 32) / 64, 2)
 }
@@ -122,9 +150,7 @@ fn grow(rest: &mut [u64], got: &mut [u64], y: usize, c: usize, q: Bound, half: &
     let mut d: usize = 0;
     while d <= numbers::lesser(rows, reach) {
         if look(rest, got, i + 5 * d, about(x, half[d])) {
-            if d == rows {
-                rows += 1;
-            }
+            rows = greater(rows, d + 1);
             d = before(d);
         } else {
             d += 1;
