@@ -2,3 +2,9 @@
 pub mod Taking
 pub mod Scanning
 pub mod Stacks
+-- Laws about them.
+pub mod TwoLaws
+pub mod AlongLaws
+pub mod LookLaws
+pub mod GrowLaws
+pub mod ScanLaws

@@ -12,12 +12,6 @@ ghost use lib.ListN.{length};
 ghost use Rattle.rules.specs.Calls.{postsRefusal};
 ghost use Rattle.rules.specs.Outcomes.{Posts};
 
-// Two words side by side in a row: 128 columns.
-pub struct Span {
-    pub a: u64,
-    pub b: u64,
-}
-
 // The refusals of posts: 1 to 3, 20 for the radius, 4, 5 for the length of the posts, 7; 0 for none.
 fn refusal(s: Settings, radius: Micrometres, part: &[u8], posts: usize) -> u8
     ensures { λ k. ⌜ k ≡ postsRefusal s radius (now (part .entry)) posts ⌝ }
