@@ -250,10 +250,15 @@ module _ (m : ℕ) (touch : ℕ → ℕ → Bool) (free seed : Plane) where
 
 -- Growing looks only at the pixels that exist ------------------------------------------------------------------------
 
+-- what is joined stays joined where more is free and more are seeds
+module _ (m : ℕ) (t : ℕ → ℕ → Bool) (f g s r : Plane) (ef : (p : ℕ) → p < m → f p ≡ true → g p ≡ true) (es : (p : ℕ) → p < m → s p ≡ true → r p ≡ true) where
+  pub joined-more : {k p : ℕ} → p < m → Joined m t f s k p → Joined m t g r k p
+  joined-more lp (start {p = p} {o = o} a lo b d) = start (ef p lp a) lo b (es o lo d)
+  joined-more lp (onward {k = k} {p = p} {o = o} a lo b d) = onward (ef p lp a) lo b (joined-more lo d)
+
 module _ (m : ℕ) (t : ℕ → ℕ → Bool) (f g s r : Plane) (ef : (p : ℕ) → p < m → f p ≡ g p) (es : (p : ℕ) → p < m → s p ≡ r p) where
   joined-same : {k p : ℕ} → p < m → Joined m t f s k p → Joined m t g r k p
-  joined-same lp (start {p = p} {o = o} a lo b d) = start (sym (ef p lp) ∙ a) lo b (sym (es o lo) ∙ d)
-  joined-same lp (onward {k = k} {p = p} {o = o} a lo b d) = onward (sym (ef p lp) ∙ a) lo b (joined-same lo d)
+  joined-same = joined-more m t f g s r (λ p l a. sym (ef p l) ∙ a) (λ p l a. sym (es p l) ∙ a)
 
   grown-le : (p : ℕ) → p < m → 0 < getD (grown m t f s m) p 0 → (0 < getD (grown m t g r m) p 0) × (getD (grown m t g r m) p 0 ≤ getD (grown m t f s m) p 0)
   grown-le p lp a = go (getD (grown m t f s m) p 0) refl

@@ -43,7 +43,7 @@ length-joined a (suc m) c f s = omega (arith, length-append (f a) (joinedUp (suc
 
 -- Stacks --------------------------------------------------------------------------------------------------------
 
-joined-free : {m : ℕ} {t : ℕ → ℕ → Bool} {free seed : Plane} {k p : ℕ} → Joined m t free seed k p → free p ≡ true
+pub joined-free : {m : ℕ} {t : ℕ → ℕ → Bool} {free seed : Plane} {k p : ℕ} → Joined m t free seed k p → free p ≡ true
 joined-free (start f l t s) = f
 joined-free (onward f l t r) = f
 
