@@ -18,7 +18,7 @@ use Rattle.rules.specs.Judging.{overlap, badRing, unheld, unheldNumber, firstIn
 use Rattle.rules.specs.Jobs.{Job, headEnd, partEnd, supportEnd, ringCount, settingsIn, storedIn, partIn, supportIn, layoutOf, fileLength}
 use Rattle.rules.specs.Calls.{saysReached, saysPlanned, saysSettings, saysRead, saysCopied, saysWritten, reachCases, reachAnswer, planCases, planRefusal}
 use Rattle.rules.specs.Calls.{lengthCases, settingCases, stackCases, refusedIn}
-use Rattle.rules.specs.Calls.{cleanCases, cleanRefusal, cleanAnswer, planAnswer, readCases, readRefusal, readAnswer, copyCases, copyAnswer, writeCases, writeRefusal, writeAnswer}
+use Rattle.rules.specs.Calls.{cleanCases, cleanRefusal, cleanAnswer, postsCases, postsRefusal, postsAnswer, planAnswer, readCases, readRefusal, readAnswer, copyCases, copyAnswer, writeCases, writeRefusal, writeAnswer}
 use Rattle.rules.specs.Demands.{Given, FirstAt, Tells}
 use Rattle.rules.specs.declared.Micrometres.{Micrometres}
 use Rattle.rules.specs.declared.Pixels.{Pixels}
@@ -38,7 +38,7 @@ use Rattle.rules.specs.declared.WrittenJob.the-variants.{Length, Refused as Not
 use Rattle.laws.specs.Tests.{split}
 use Rattle.laws.specs.Refusals.{given-exactly, answer-fine, lacks, never, else-first}
 use Rattle.laws.specs.Padding.{number-exactly, tells}
-use Rattle.laws.specs.StackTables.{stack-seven, both-seven, both-eight, clean-seven}
+use Rattle.laws.specs.StackTables.{stack-seven, both-seven, both-eight, clean-seven, posts-seven}
 use Rattle.laws.specs.JobFiles.{read-seven, read-eight, copy-parts, stores, jobCases, writeRoom, write-parts}
 use Rattle.laws.specs.Places.{First, one-is, first-is, first-unique, digits-in, numberOf, flat-is, earlier-less, less-earlier, Nowhere, nowhere-in, nowhere-out}
 
@@ -86,6 +86,18 @@ module _ (s : Settings) (c : Pixels) (part : List ℕ) (x y z : ℕ) where
       tells saysPlanned Done NotPlanned (λ j. refl) (cleanCases s c part x y z) s part [] (λ e. omega arith) (λ e. omega arith)
       (λ e. clean-seven s c part x y z e .set)
       (λ e. absurd (never 7 (cleanCases s c part x y z) refl e))
+
+module _ (s : Settings) (r : Micrometres) (part : List ℕ) (room : ℕ) where
+  pub posts-refuses : (k : ℕ) → (getD (saysPlanned (postsAnswer s r part room)) 0 0 ≡ suc k) ↔ Given (suc k) (postsCases s r part room)
+  unfolding postsAnswer postsRefusal
+  posts-refuses k = number-exactly saysPlanned Done NotPlanned (λ j. refl) (postsCases s r part room) s part [] k (λ e. omega arith)
+
+  pub posts-tells : Tells (saysPlanned (postsAnswer s r part room)) (postsCases s r part room) s part []
+  unfolding postsAnswer postsRefusal postsCases settingCases reachCases lacks
+  posts-tells =
+      tells saysPlanned Done NotPlanned (λ j. refl) (postsCases s r part room) s part [] (λ e. omega arith) (λ e. omega arith)
+      (λ e. posts-seven s r part room e .set)
+      (λ e. absurd (never 7 (postsCases s r part room) refl e))
 
 module _ (f : List ℕ) where
   pub read-refuses : (k : ℕ) → (getD (saysRead (readAnswer f)) 0 0 ≡ suc k) ↔ Given (suc k) (readCases f)

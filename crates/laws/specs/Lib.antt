@@ -19,6 +19,7 @@ pub mod Soundness
 pub mod Cleaning
 pub mod Cleaned
 pub mod Closing
+pub mod PostCalls
 pub mod PostLayers
 pub mod ReportLaws
 pub mod Tests

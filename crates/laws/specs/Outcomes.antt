@@ -4,7 +4,7 @@ use mathlib.Core.Bool.{Bool}
 use mathlib.Core.List.{List}
 use Prim.Native.Nat.{ℕ}
 use Rattle.rules.specs.Jobs.{Job}
-use Rattle.rules.specs.Outcomes.{Reaches, Plans, Cleans, Judges, Reads, HandsPart, HandsSupport, Copies, Writes, Reports}
+use Rattle.rules.specs.Outcomes.{Reaches, Plans, Cleans, Posts, Judges, Reads, HandsPart, HandsSupport, Copies, Writes, Reports}
 use Rattle.rules.specs.declared.Micrometres.{Micrometres}
 use Rattle.rules.specs.declared.Pixels.{Pixels}
 use Rattle.rules.specs.declared.Settings.{Settings}
@@ -27,6 +27,9 @@ plan-settled s part sup ring r q a b c d x y = (both (x .answer) (y .answer), bo
 pub clean-settled : (s : Settings) (c : Pixels) (part sup ring clean : List ℕ) (r q : Planned) (a b d a′ b′ d′ : List ℕ) → Cleans s c part sup ring clean r a b d → Cleans s c part sup ring clean q a′ b′ d′ → (r ≡ q) × (a ≡ a′) × (b ≡ b′) × (d ≡ d′)
 clean-settled s c part sup ring clean r q a b d a′ b′ d′ x y =
     (both (x .answer) (y .answer), both (x .support) (y .support), both (x .rings) (y .rings), both (x .cleaned) (y .cleaned))
+
+pub posts-settled : (s : Settings) (r : Micrometres) (part old : List ℕ) (a b : Planned) (c d : List ℕ) → Posts s r part old a c → Posts s r part old b d → (a ≡ b) × (c ≡ d)
+posts-settled s r part old a b c d x y = (both (x .answer) (y .answer), both (x .posts) (y .posts))
 
 pub judge-settled : (s : Settings) (part sup ring : List ℕ) (r q : Judged) → Judges s part sup ring r → Judges s part sup ring q → r ≡ q
 judge-settled s part sup ring r q x y = both (x .answer) (y .answer)

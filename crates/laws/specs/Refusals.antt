@@ -13,7 +13,7 @@ use Rattle.rules.specs.Images.{rowsOf, paddingSet}
 use Rattle.rules.specs.Demands.{Given, here, later, NoneGiven, end, next}
 use Rattle.rules.specs.Jobs.{Job}
 use Rattle.rules.specs.Calls.{reachCases, settingCases, lengthCases, bothCases, stackCases, planCases, cleanCases, judgeCases, sectionCases, readCases}
-use Rattle.rules.specs.Calls.{copyCases, writeCases}
+use Rattle.rules.specs.Calls.{postsCases, copyCases, writeCases}
 use Rattle.rules.specs.Report.{reportCases}
 use Rattle.rules.specs.declared.Micrometres.{Micrometres}
 use Rattle.rules.specs.declared.Pixels.{Pixels}
@@ -217,6 +217,11 @@ plan-table s part a b = refl
 pub clean-table : (s : Settings) (c : Pixels) (part : List ℕ) (x y z : ℕ) → numbers (cleanCases s c part x y z) ≡ 1 ∷ 2 ∷ 3 ∷ 18 ∷ 4 ∷ 5 ∷ 5 ∷ 6 ∷ 7 ∷ []
 unfolding cleanCases settingCases reachCases
 clean-table s c part x y z = refl
+
+-- "Refusals: 1, 2, 3, 20 for a radius or its reach over those limits, 4, 5 for the posts' length, 7"
+pub posts-table : (s : Settings) (r : Micrometres) (part : List ℕ) (room : ℕ) → numbers (postsCases s r part room) ≡ 1 ∷ 2 ∷ 3 ∷ 20 ∷ 4 ∷ 5 ∷ 7 ∷ []
+unfolding postsCases settingCases reachCases
+posts-table s r part room = refl
 
 pub judge-table : (s : Settings) (part support : List ℕ) (a : ℕ) → numbers (judgeCases s part support a) ≡ 1 ∷ 2 ∷ 3 ∷ 4 ∷ 5 ∷ 6 ∷ 7 ∷ 8 ∷ []
 unfolding judgeCases bothCases stackCases settingCases reachCases lengthCases

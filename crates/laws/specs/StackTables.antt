@@ -1,20 +1,23 @@
--- The tables of a stack, numbers 1 to 7 and 1 to 8: what is known where they refuse nothing, and that no more is needed.
+-- The tables of a stack, numbers 1 to 7 and 1 to 8, and those of cleaning and posts: what is known where they refuse nothing, and that no more is needed.
 use mathlib.Core.Path.{_≡_, refl, sym, ap, _∙_}
-use mathlib.Core.Logic.{_↔_}
-use mathlib.Core.Bool.{Bool, true, false, not, cond}
+use mathlib.Core.Logic.{_⊎_, inl, inr, ⊎-elim, _↔_}
+use mathlib.Core.Bool.{Bool, true, false, not, _&&_, _||_, cond}
 use mathlib.Core.List.{List, [], _∷_, _++_}
-use Prim.Native.Nat.{ℕ, _≤_, _<_}
+use Prim.Native.Nat.{ℕ, _/_, _≤_, _<_}
 use native.Mathlib.Omega.{arith}
-use lib.Dec.{eqb, ltb}
+use lib.Dec.{eqb, ltb, leb}
 use lib.ListN.{length}
-use borrow.Author.Tests.{eq-eqb, ne-eqb, eqb-true, not-false, le-ltb, lt-ltb, ltb-false}
+use borrow.Author.Tests.{eq-eqb, ne-eqb, eqb-true, not-false, le-ltb, lt-ltb, ltb-true, ltb-false, leb-false, lt-leb}
 use Rattle.rules.specs.Tools.{some, Case, _when_, refusal}
-use Rattle.rules.specs.Images.{rowsOf, stackBytes, ringsIn, paddingSet}
+use Rattle.rules.specs.Images.{within, sized, rowsOf, stackBytes, ringsIn, paddingSet}
+use Rattle.rules.specs.Reach.{settable, reachOf, mostReach}
 use Rattle.rules.specs.Calls.{reachCases, settingCases, lengthCases, stackCases, bothCases, planCases, planRefusal, cleanCases, cleanRefusal, judgeCases}
+use Rattle.rules.specs.Calls.{postsCases, postsRefusal}
 use Rattle.rules.specs.Cleaning.{mostGap}
+use Rattle.rules.specs.declared.Micrometres.{Micrometres}
 use Rattle.rules.specs.declared.Settings.{Settings}
 use Rattle.rules.specs.declared.Pixels.{Pixels}
-use Rattle.laws.specs.Tests.{split, clash}
+use Rattle.laws.specs.Tests.{split, clash, none-of, or-l, or-r, or-out, and-l, and-false, not-in, not-out}
 use Rattle.laws.specs.Refusals.{numbered, lacks, never, orElse, else-both, else-none, else-some, else-passes, else-first, refusal-append, case-out, case-told, case-passes}
 use Rattle.laws.specs.Refusals.{settings-numbered, stack-numbered, none-both}
 
@@ -196,3 +199,107 @@ module _ (s : Settings) (c : Pixels) (part : List ℕ) (sup k clean : ℕ) where
       clean-parts
       ∙ else-none (refusal (settingCases s)) behind e
       ∙ rw (le-ltb mostGap (c .0) l, eq-eqb (length part) (stackBytes s) p, ne-eqb clean (stackBytes s) n) (split (eqb sup (stackBytes s)) (λ t. rw t) (λ t. rw t))
+
+-- Posts: no rings are lent, and 20 is given where the rules of the overhang refuse the radius
+pub record Postable (s : Settings) (r : Micrometres) (part : List ℕ) (room : ℕ) : Type 0 where
+  pub settings : refusal (settingCases s) ≡ 0
+  pub radius : refusal (reachCases (s .pitch) r) ≡ 0
+  pub part-long : length part ≡ stackBytes s
+  pub posts-long : room ≡ stackBytes s
+  pub part-clear : paddingSet (s .w) (rowsOf s) part ≡ false
+
+module _ (s : Settings) (r : Micrometres) (part : List ℕ) (room : ℕ) where
+  abbrev over : Bool
+  over = not (settable (s .pitch) r) || ltb mostReach (reachOf (s .pitch) r .0)
+
+  -- 20 and what comes after it
+  abbrev after-settings : ℕ
+  after-settings =
+      refusal ((20 when over)
+      ∷ (4 when not (eqb (length part) (stackBytes s)))
+      ∷ (5 when not (eqb room (stackBytes s)))
+      ∷ (7 when paddingSet (s .w) (rowsOf s) part)
+      ∷ [])
+
+  posts-parts : postsRefusal s r part room ≡ orElse (refusal (settingCases s)) after-settings
+  unfolding postsRefusal postsCases
+  posts-parts = refusal-append (settingCases s) _ (settings-numbered s)
+
+  -- "a radius .. under the overhang's own limits and reach rule": 20 stands for the 2 and the 3 of an overhang
+  not-over : refusal (reachCases (s .pitch) r) ≡ 0 → over ≡ false
+  unfolding reachCases
+  not-over e =
+      let (a, e₁) = case-out (not (settable (s .pitch) r)) 1 _ e in
+      let (b, e₂) = case-out (ltb mostReach (reachOf (s .pitch) r .0)) 2 _ e₁ in
+      rw (a, b)
+
+  radius-fine : over ≡ false → refusal (reachCases (s .pitch) r) ≡ 0
+  unfolding reachCases
+  radius-fine e = let (a, b) = none-of (not (settable (s .pitch) r)) _ e in rw (a, b)
+
+  -- a test of the numbers in turn: settings, radius, the length of the part, that of the posts, padding
+  pub posts-settings : (refusal (settingCases s) ≡ 0 → ⊥) → postsRefusal s r part room ≡ refusal (settingCases s)
+  posts-settings n = posts-parts ∙ else-some (refusal (settingCases s)) after-settings n
+
+  module _ (e : refusal (settingCases s) ≡ 0) where
+    posts-behind : postsRefusal s r part room ≡ after-settings
+    posts-behind = posts-parts ∙ else-none (refusal (settingCases s)) after-settings e
+
+    pub posts-radius : (refusal (reachCases (s .pitch) r) ≡ 0 → ⊥) → postsRefusal s r part room ≡ 20
+    posts-radius n = posts-behind ∙ split over (λ t. rw t) (λ f. absurd (n (radius-fine f)))
+
+    module _ (f : refusal (reachCases (s .pitch) r) ≡ 0) where
+      pub posts-part : (length part ≡ stackBytes s → ⊥) → postsRefusal s r part room ≡ 4
+      posts-part n = posts-behind ∙ rw (not-over f, ne-eqb (length part) (stackBytes s) n)
+
+      pub posts-length : length part ≡ stackBytes s → (room ≡ stackBytes s → ⊥) → postsRefusal s r part room ≡ 5
+      posts-length p n = posts-behind ∙ rw (not-over f, eq-eqb (length part) (stackBytes s) p, ne-eqb room (stackBytes s) n)
+
+      pub posts-rest : length part ≡ stackBytes s → room ≡ stackBytes s → postsRefusal s r part room ≡ refusal ((7 when paddingSet (s .w) (rowsOf s) part) ∷ [])
+      posts-rest p l = posts-behind ∙ rw (not-over f, eq-eqb (length part) (stackBytes s) p, eq-eqb room (stackBytes s) l)
+
+  -- nothing is refused exactly where settings and radius are in range, both lengths are right and no padding is set
+  pub posts-exactly : (postsRefusal s r part room ≡ 0) ↔ Postable s r part room
+  posts-exactly = (
+    (λ e.
+        let (a, e₁) = else-both (refusal (settingCases s)) after-settings (sym posts-parts ∙ e) in
+        let (o, e₂) = case-out over 19 _ e₁ in
+        let (b, e₃) = case-out (not (eqb (length part) (stackBytes s))) 3 _ e₂ in
+        let (d, e₄) = case-out (not (eqb room (stackBytes s))) 4 _ e₃ in
+        let (z, e₅) = case-out (paddingSet (s .w) (rowsOf s) part) 6 _ e₄ in
+        record { settings = a; radius = radius-fine o; part-long = eqb-true _ _ (not-false _ b); posts-long = eqb-true _ _ (not-false _ d); part-clear = z }),
+    (λ v. posts-rest (v .settings) (v .radius) (v .part-long) (v .posts-long) ∙ rw (v .part-clear)),
+  )
+
+  pub posts-seven : postsRefusal s r part room ≡ 7 → Padded s part
+  unfolding settingCases reachCases lacks
+  posts-seven e =
+      let (a, e₁) = else-passes (refusal (settingCases s)) after-settings 7 (λ z. absurd (never 6 (settingCases s) refl z)) (sym posts-parts ∙ e) in
+      let (o, e₂) = case-passes over 20 _ 7 (λ z. omega arith) e₁ in
+      let (b, e₃) = case-passes (not (eqb (length part) (stackBytes s))) 4 _ 7 (λ z. omega arith) e₂ in
+      let (d, e₄) = case-passes (not (eqb room (stackBytes s))) 5 _ 7 (λ z. omega arith) e₃ in
+      record { settings = a; long = eqb-true _ _ (not-false _ b); set = case-told _ 6 e₄ }
+
+  -- 20 is given exactly where the settings are fine and the radius is over 10,000 micrometres or 32 whole pixels
+  pub posts-radius-exactly : (postsRefusal s r part room ≡ 20) ↔ ((refusal (settingCases s) ≡ 0) × ((10000 < r .0) ⊎ (32 < r .0 / s .pitch .0)))
+  unfolding settingCases reachCases lacks settable reachOf
+  posts-radius-exactly = (
+    (λ e.
+        let (a, e₁) = else-passes (refusal (settingCases s)) after-settings 20 (λ z. absurd (never 19 (settingCases s) refl z)) (sym posts-parts ∙ e) in
+        let fine : settable (s .pitch) (s .overhang) ≡ true = not-false _ (case-out (not (settable (s .pitch) (s .overhang))) 1 _ (case-out (not (sized s)) 0 _ a .1) .0) in
+        let in-range : within 10 1000 (s .pitch .0) ≡ true = and-l (within 10 1000 (s .pitch .0)) _ fine in (
+          a,
+          split over
+              (λ t. ⊎-elim
+              (λ u. inl (leb-false (r .0) 10000 (rw in-range at (not-out (within 10 1000 (s .pitch .0) && leb (r .0) 10000) u))))
+              (λ u. inr (ltb-true mostReach (r .0 / s .pitch .0) u))
+              (or-out (not (settable (s .pitch) r)) _ t))
+              (λ f. absurd (never 19 behind-radius refl (rw f at e₁))),
+        )),
+    (λ (a, u). posts-behind a ∙ rw (⊎-elim
+        (λ l. or-l (not (settable (s .pitch) r)) _ (not-in (within 10 1000 (s .pitch .0) && leb (r .0) 10000) (rw (lt-leb (r .0) 10000 l) (and-false (within 10 1000 (s .pitch .0))))))
+        (λ l. or-r (not (settable (s .pitch) r)) _ (lt-ltb mostReach (r .0 / s .pitch .0) l)) u)),
+  )
+    where
+      behind-radius : List Case
+      behind-radius = (4 when not (eqb (length part) (stackBytes s))) ∷ (5 when not (eqb room (stackBytes s))) ∷ (7 when paddingSet (s .w) (rowsOf s) part) ∷ []
