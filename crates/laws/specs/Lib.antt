@@ -20,6 +20,7 @@ pub mod Cleaning
 pub mod Cleaned
 pub mod Closing
 pub mod PostCalls
+pub mod Posts
 pub mod PostLayers
 pub mod ReportLaws
 pub mod Tests

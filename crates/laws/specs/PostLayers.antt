@@ -1,5 +1,5 @@
 -- Posts, layer by layer: what a layer is made of, what posts take away, and the scan step by step.
-use mathlib.Core.Path.{_≡_, refl, sym, ap, ap₂, _∙_}
+use mathlib.Core.Path.{_≡_, refl, sym, ap, ap₂, subst, _∙_}
 use mathlib.Core.Logic.{⊎-elim}
 use mathlib.Core.Bool.{Bool, true, false, not, _&&_, _||_}
 use mathlib.Core.List.{List, [], _∷_}
@@ -13,7 +13,7 @@ use Rattle.rules.specs.Tools.{count, each, Found, nothing, found, first}
 use Rattle.rules.specs.Images.{Plane, Stack, Rings}
 use Rattle.rules.specs.Planning.{near, touch, grown}
 use Rattle.rules.specs.Posts.{leftBy, goneDown, planeOf, listed, foundThen, spared, scanned, postsBelow, postsFrom, stackOf}
-use Rattle.laws.specs.Tests.{split, clash, bool-eq, and-l, and-r, and-in, or-l, or-r, or-out, or-false, and-true, and-false, not-in, not-out, getD-each, each-same, count-le, count-more}
+use Rattle.laws.specs.Tests.{split, clash, and-l, and-r, or-r, or-out, or-false, and-true, and-false, getD-each, each-same, count-le, count-more}
 use Rattle.laws.specs.Growing.{grown-same, ring-joined}
 use Rattle.laws.specs.Places.{First, none-is, one-is, first-is, first-unique}
 use Rattle.laws.specs.Neighbours.{distance-none}
@@ -177,6 +177,32 @@ module _ (w h q : ℕ) where
       (λ t. spared-left (planeOf rest) (eqb a) p l (scan-in k S p l t))
       (or-out (eqb a p) (listed (scanned w h q k S) p) (sym (ap (λ (x : List ℕ). listed x p) (scan-first k rest a f)) ∙ e)))
 
+  -- what remains is counted: none, or some
+  pub none-counted : (rest : List Bool) → count (h * w) (planeOf rest) ≤ 0 → NoneLeft rest
+  none-counted rest b p l = split (planeOf rest p)
+      (λ t. absurd (omega (arith, count-more (h * w) (λ x. false) (planeOf rest) (λ x lx z. clash z refl) p l refl t)))
+      (λ z. z)
+
+  -- "the first remaining pixel becomes a post and takes away .., until none remains", as a statement on the list of posts
+  pub data Scan : List Bool → List ℕ → Type 0 where
+    ended : {rest : List Bool} → NoneLeft rest → Scan rest []
+    post : {rest : List Bool} {a : ℕ} {l : List ℕ} → FirstLeft rest a → Scan (spared w h q (planeOf rest) (eqb a)) l → Scan rest (a ∷ l)
+
+  -- as many steps as there are pixels, or even only as many as remain, are enough
+  pub scan-is : (k : ℕ) (rest : List Bool) → count (h * w) (planeOf rest) ≤ k → Scan rest (scanned w h q k rest)
+  unfolding scanned
+  scan-is zero rest b = ended (none-counted rest b)
+  scan-is (suc k) rest b = scan-cases rest
+      (λ none. subst (Scan rest) (sym (scan-end (suc k) rest none)) (ended none))
+      (λ a f. subst (Scan rest) (sym (scan-first k rest a f)) (post f (scan-is k (spared w h q (planeOf rest) (eqb a)) (omega (arith, scan-less rest a f)))))
+
+  -- and there is only one such list
+  pub scan-only : (k : ℕ) {rest : List Bool} {l : List ℕ} → count (h * w) (planeOf rest) ≤ k → Scan rest l → l ≡ scanned w h q k rest
+  scan-only k {rest} b (ended none) = sym (scan-end k rest none)
+  scan-only zero {rest} b (post {a = a} f r) = clash (f .remains) (none-counted rest b a (f .inside))
+  scan-only (suc k) {rest} b (post {a = a} {l = l} f r) =
+      ap (λ (x : List ℕ). a ∷ x) (scan-only k (omega (arith, scan-less rest a f)) r) ∙ sym (scan-first k rest a f)
+
   -- where the overhang leaves nothing, the posts gone down are all
   pub below-none : (left down : Plane) → ((p : ℕ) → p < h * w → left p ≡ false) → (p : ℕ) → p < h * w → planeOf (postsBelow w h q left down) p ≡ down p
   unfolding listed
@@ -191,7 +217,10 @@ module _ (w h : ℕ) where
   -- a post takes away its own pixel alone
   spared-zero : (rest posts : Plane) (p : ℕ) → p < h * w → planeOf (spared w h 0 rest posts) p ≡ (rest p && not (posts p))
   spared-zero rest posts p l =
-      spared-is w h 0 rest posts p l ∙ split (posts p) (λ t. rw (t, and-false)) (λ f. rw (f, eq-eqb (taken w h 0 rest posts p) 0 (bare f (taken w h 0 rest posts p) refl)) (and-true (rest p && true)))
+      spared-is w h 0 rest posts p l
+      ∙ split (posts p)
+      (λ t. rw (t, and-false))
+      (λ f. rw (f, eq-eqb (taken w h 0 rest posts p) 0 (bare f (taken w h 0 rest posts p) refl)) (and-true (rest p && true)))
     where
       bare : posts p ≡ false → (r : ℕ) → taken w h 0 rest posts p ≡ r → taken w h 0 rest posts p ≡ 0
       bare f zero e = e
@@ -202,9 +231,7 @@ module _ (w h : ℕ) where
   -- so each that remains becomes a post
   scan-zero : (k : ℕ) (rest : List Bool) → count (h * w) (planeOf rest) ≤ k → (p : ℕ) → p < h * w → listed (scanned w h 0 k rest) p ≡ planeOf rest p
   unfolding listed scanned
-  scan-zero zero rest b p l = sym (split (planeOf rest p)
-      (λ t. absurd (omega (arith, count-more (h * w) (λ x. false) (planeOf rest) (λ x lx z. clash z refl) p l refl t)))
-      (λ z. z))
+  scan-zero zero rest b p l = sym (none-counted w h 0 rest b p l)
   scan-zero (suc k) rest b p l = scan-cases w h 0 rest
       (λ none. ap (λ (x : List ℕ). listed x p) (scan-end w h 0 (suc k) rest none) ∙ sym (none p l))
       (λ a f.
