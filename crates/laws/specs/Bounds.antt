@@ -45,6 +45,14 @@ bound-at-multiples p t k h e =
     let r : t .0 / p .0 ≡ k = ap (λ (x : ℕ). x / p .0) e ∙ mul-div-cancel k h in
     rw (r, e, mul-mul-mul-comm k (p .0) k (p .0)) (mul-div-cancel (k * k) (mul-pos h h))
 
+-- a length below the pitch reaches no other pixel
+pub bound-none : (p t : Micrometres) → 0 < p .0 → t .0 < p .0 → boundBy p t .0 ≡ 0
+unfolding reachOf square
+bound-none p t h l =
+    let r : t .0 / p .0 ≡ 0 = div-eq-of-lt l in
+    let b : boundBy p t .0 < 1 = rw r at (bound-high p t h) in
+    omega arith
+
 -- "compared with R²": the bound that every pair had before
 abbrev pub reachSquared : Settings → ℕ → ℕ
 reachSquared s i = square (reachOf (s .pitch) (s .overhang) .0)
@@ -61,12 +69,8 @@ module _ (s : Settings) (some-pitch : 0 < s .pitch .0) where
 
   -- "R 0, which excuses nothing", still: where the overhang is below the pitch no pixel may carry a ring
   pub below-pitch : (i : ℕ) (low up : Plane) (p : ℕ) → s .overhang .0 < s .pitch .0 → reached (s .w) (s .h) (boundOf s i) low up p ≡ false
-  unfolding reachOf square boundOf
-  below-pitch i low up p l =
-      let r : s .overhang .0 / s .pitch .0 ≡ 0 = div-eq-of-lt l in
-      let b : boundBy (s .pitch) (s .overhang) .0 < 1 = rw r at (bound-high (s .pitch) (s .overhang) some-pitch) in
-      let z : boundBy (s .pitch) (s .overhang) .0 ≡ 0 = omega arith in
-      rw z (reach-none (s .w) (s .h) low up p)
+  unfolding boundOf
+  below-pitch i low up p l = rw (bound-none (s .pitch) (s .overhang) some-pitch l) (reach-none (s .w) (s .h) low up p)
 
   -- what was near before is near now
   pub near-still : (i : ℕ) (low : Plane) (p : ℕ) → near (s .w) (s .h) (reachSquared s i) low p ≡ true → near (s .w) (s .h) (boundOf s i) low p ≡ true

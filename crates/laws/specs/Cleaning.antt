@@ -2,10 +2,9 @@
 use mathlib.Core.Path.{_≡_, refl, sym, ap, ap₂, _∙_}
 use mathlib.Core.Bool.{Bool, true, false, not, _&&_, _||_}
 use mathlib.Core.List.{List, [], _∷_}
-use Prim.Native.Nat.{ℕ, zero, suc, _-_, _*_, _<_}
+use Prim.Native.Nat.{ℕ, suc, _-_, _*_, _<_}
 use native.Mathlib.Omega.{arith}
 use lib.ListN.{length, getD}
-use Rattle.rules.specs.Tools.{answer}
 use Rattle.rules.specs.Images.{Plane, Stack, pixel, ringAt}
 use Rattle.rules.specs.Reach.{boundOf}
 use Rattle.rules.specs.Planning.{excused, plannedRings, plannedBytes}
@@ -17,7 +16,7 @@ use Rattle.rules.specs.declared.Pixels.{Pixels}
 use Rattle.rules.specs.declared.Planned.{Planned}
 use Rattle.rules.specs.declared.Planned.the-variants.{Done, Refused}
 use Rattle.rules.specs.declared.Judged.{Judged}
-use Rattle.laws.specs.Padding.{refused-number}
+use Rattle.laws.specs.Padding.{refused-number, said-none}
 use Rattle.laws.specs.Refusals.{answer-fine, answer-refused}
 use Rattle.laws.specs.StackTables.{plan-exactly, clean-exactly}
 use Rattle.laws.specs.Limits.{ranged}
@@ -58,11 +57,7 @@ module _ (s : Settings) (c : Pixels) (part sup ring clean : List ℕ) where
   -- an answer of 0 is one that is not refused
   fine : (a : Planned) → a ≡ cleanAnswer s c part (length sup) (length ring) (length clean) → saysPlanned a ≡ 0 ∷ [] → r ≡ 0
   unfolding cleanAnswer
-  fine a x e = go r (sym (ap saysPlanned x) ∙ e)
-    where
-      go : (k : ℕ) → saysPlanned (answer k Done (λ j. Refused (refused s part [] j))) ≡ 0 ∷ [] → k ≡ 0
-      go zero h = refl
-      go (suc k) h = sym (refused-number s part [] (suc k)) ∙ ap (λ (l : List ℕ). getD l 0 0) h
+  fine a x e = said-none s part [] r (sym (ap saysPlanned x) ∙ e)
 
 -- Rules 10.5 and 10.6, pixel by pixel -------------------------------------------------------------------------------------
 

@@ -14,11 +14,12 @@ use lib.ListN.{length, getD}
 use borrow.Author.Tests.{eq-eqb, ne-eqb, eqb-true, eqb-false}
 use Rattle.rules.specs.Tools.{Found, nothing, found, first, Case, refusal, answer}
 use Rattle.rules.specs.Images.{rowBytes, bitAt, rowsOf, padded, paddingSet, firstPadded}
-use Rattle.rules.specs.Calls.{saysRefusal, tellRow, refused}
+use Rattle.rules.specs.Calls.{saysRefusal, saysPlanned, tellRow, refused}
 use Rattle.rules.specs.Demands.{Given, FirstRow, Tells}
 use Rattle.rules.specs.declared.Settings.{Settings}
 use Rattle.rules.specs.declared.Refusal.{Refusal}
 use Rattle.rules.specs.declared.Refusal.the-variants.{Number}
+use Rattle.rules.specs.declared.Planned.the-variants.{Done, Refused as NotPlanned}
 use Rattle.laws.specs.Tests.{split, clash, some-out}
 use Rattle.laws.specs.Refusals.{given-exactly}
 use Rattle.laws.specs.BytePixels.{low-zero}
@@ -146,6 +147,11 @@ module _ (s : Settings) (part sup : List ℕ) where
   refused-number k =
       split (eqb k 7) (λ t. rw t (number-told (s .h) k (firstPadded s part))) (λ t.
       split (eqb k 8) (λ u. rw (t, u) (number-told (s .h) k (firstPadded s sup))) (λ u. rw (t, u)))
+
+  -- what says 0 of a stack that is planned, cleaned or given posts has refused nothing
+  pub said-none : (k : ℕ) → saysPlanned (answer k Done (λ j. NotPlanned (refused s part sup j))) ≡ 0 ∷ [] → k ≡ 0
+  said-none zero e = refl
+  said-none (suc k) e = sym (refused-number (suc k)) ∙ ap (λ (l : List ℕ). getD l 0 0) e
 
   -- 7 with the part's row, 8 with the support's, and no other with that of the support
   pub refused-seven : (k : ℕ) → k ≡ 7 → refused s part sup k ≡ tellRow (s .h) k (firstPadded s part)

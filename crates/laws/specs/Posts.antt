@@ -28,7 +28,7 @@ module _ (w h q : ℕ) where
   Holds rest posts p = (posts p ≡ true) ⊎ ((k : ℕ) × Joined (h * w) (touch w) (λ o. rest o && near w h q posts o) posts k p)
 
   -- more posts hold more
-  holds-more : (rest rest′ posts posts′ : Plane) → Inside w h rest rest′ → Inside w h posts posts′ → (p : ℕ) → p < h * w → Holds rest posts p → Holds rest′ posts′ p
+  pub holds-more : (rest rest′ posts posts′ : Plane) → Inside w h rest rest′ → Inside w h posts posts′ → (p : ℕ) → p < h * w → Holds rest posts p → Holds rest′ posts′ p
   holds-more rest rest′ posts posts′ a b p l (inl e) = inl (b p l e)
   holds-more rest rest′ posts posts′ a b p l (inr (k, j)) = inr (
     k,
