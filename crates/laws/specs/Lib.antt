@@ -21,6 +21,7 @@ pub mod Cleaned
 pub mod Closing
 pub mod PostCalls
 pub mod Posts
+pub mod PostSwallow
 pub mod PostLayers
 pub mod ReportLaws
 pub mod Tests

@@ -158,7 +158,7 @@ module _ (w h n q : ℕ) (part : Stack) (ring : Rings) where
   abbrev support : Stack
   support = planned n part empty ring
 
-  left-is : (i p : ℕ) → leftBy part ring i p ≡ (shadow (part i) (part (suc i)) p && eqb (ring i p) 0)
+  pub left-is : (i p : ℕ) → leftBy part ring i p ≡ (shadow (part i) (part (suc i)) p && eqb (ring i p) 0)
   unfolding leftBy
   left-is i p = rw (not-excused w h n (λ x. 0) part ring i p)
 
