@@ -21,7 +21,7 @@ use Rattle.rules.specs.Calls.{readAnswer, partAnswer, supportAnswer, copyCases,
 use Rattle.rules.specs.Report.{digits, decimal, spaced, allSpaced, refusedLine, jobLine, filled, excusedAbove, layerLine, planLines, reportCases, reportOf}
 use Rattle.rules.specs.declared.Settings.{Settings}
 
-pub settings : ℕ → ℕ → ℕ → ℕ → ℕ → Settings
+unfoldable pub settings : ℕ → ℕ → ℕ → ℕ → ℕ → Settings
 settings w h n p t = record { w = w; h = h; n = n; pitch = record { 0 = p }; overhang = record { 0 = t } }
 
 -- Planning ---------------------------------------------------------------------------------------------------------------

@@ -1,6 +1,7 @@
 -- Theorems about the rules. First what the demands ask, by name; below them what their proofs lean on.
 pub mod Bench
 pub mod Examples
+pub mod PostExamples
 pub mod DemandExamples
 pub mod Refusals
 pub mod Demand1
