@@ -21,10 +21,15 @@ use Rattle.laws.specs.Neighbours.{reach-none}
 use Rattle.laws.specs.Soundness.{near-wider, accepted-wider}
 use Rattle.laws.specs.PixelBytes.{plannedBytes-accepted, plannedBytes-least}
 
+-- a squared distance d in pixels is within a length, overhang or radius, exactly where d · p² is at most its square
+pub bound-by-exactly : (p t : Micrometres) (d : ℕ) → 0 < p .0 → (d ≤ boundBy p t .0) ↔ (d * square (p .0) ≤ square (t .0))
+unfolding square boundBy
+bound-by-exactly p t d h = le-div-iff-mul-le (mul-pos h h)
+
 -- nothing is lost to rounding: in every pair a squared distance d in pixels is within the bound exactly where d · p² is at most t²
 pub bound-exactly : (s : Settings) (i d : ℕ) → 0 < s .pitch .0 → (d ≤ boundOf s i) ↔ (d * square (s .pitch .0) ≤ square (s .overhang .0))
-unfolding square boundBy boundOf
-bound-exactly s i d h = le-div-iff-mul-le (mul-pos h h)
+unfolding boundOf
+bound-exactly s i d h = bound-by-exactly (s .pitch) (s .overhang) d h
 
 -- "the new bound can be 1,088": no settings that are not refused have more, and some have it
 pub bound-never-more : (s : Settings) (i : ℕ) → refusal (settingCases s) ≡ 0 → boundOf s i ≤ mostBound

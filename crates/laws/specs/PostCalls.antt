@@ -1,12 +1,12 @@
 -- The posts call itself: what it leaves, and what is promised of it by its contract.
-use mathlib.Core.Path.{_≡_, refl, sym, ap, subst, _∙_}
+use mathlib.Core.Path.{_≡_, sym, ap, _∙_}
 use mathlib.Core.Logic.{_⊎_, ⊎-elim, inl, inr, _↔_}
 use mathlib.Core.Bool.{true, false, _&&_}
 use mathlib.Core.List.{List, [], _∷_}
 use Prim.Native.Nat.{ℕ, suc, _-_, _*_, _<_}
 use native.Mathlib.Omega.{arith}
 use lib.ListN.{length, getD}
-use Rattle.rules.specs.Images.{Plane, Stack, Rings, rowBytes, pixel, rowsOf, stackBytes, paddingSet, bytesOf}
+use Rattle.rules.specs.Images.{Plane, Stack, rowBytes, pixel, paddingSet, bytesOf}
 use Rattle.rules.specs.Reach.{boundBy, boundOf}
 use Rattle.rules.specs.Planning.{near, touch, plannedRings, plannedBytes}
 use Rattle.rules.specs.Posts.{leftBy, postsBytes}
@@ -57,13 +57,22 @@ module _ (s : Settings) (r : Micrometres) (part old : List ℕ) where
 
 -- Rules 11, pixel by pixel ------------------------------------------------------------------------------------------------
 
+-- "left by the overhang", by the planner's rings: part above, none below, and not excused
+module _ (w h n : ℕ) (q : ℕ → ℕ) (part : List ℕ) where
+  abbrev pub left : ℕ → Plane
+  left = leftBy (pixel w h part) (plannedRing w h n q part)
+
+  pub left-means : (i p : ℕ) → suc i < n → p < h * w →
+      (left i p ≡ true) ↔ ((pixel w h part (suc i) p ≡ true) × (pixel w h part i p ≡ false) × (Excused w h q (pixel w h part) i p → ⊥))
+  unfolding plannedRings
+  left-means i p l lp = left-exactly w h n q (pixel w h part) i p l lp
+
 module _ (w h n : ℕ) (q : ℕ → ℕ) (r : ℕ) (part : List ℕ) where
   abbrev P : Stack
   P = pixel w h part
 
-  -- what the overhang leaves, by the planner's rings
-  abbrev pub left : ℕ → Plane
-  left = leftBy P (plannedRing w h n q part)
+  abbrev L : ℕ → Plane
+  L = left w h n q part
 
   abbrev pub postPixel : ℕ → Plane
   postPixel = pixel w h (postsBytes w h n q r part)
@@ -75,21 +84,16 @@ module _ (w h n : ℕ) (q : ℕ → ℕ) (r : ℕ) (part : List ℕ) where
   at : (i p : ℕ) → i < n → p < h * w → postPixel i p ≡ true → postsAt w h n r P (plannedRing w h n q part) i p ≡ true
   at i p li lp e = sym (post-pixel i p li lp) ∙ e
 
-  -- "left by the overhang": part above, none below, and not excused
-  pub left-means : (i p : ℕ) → suc i < n → p < h * w → (left i p ≡ true) ↔ ((P (suc i) p ≡ true) × (P i p ≡ false) × (Excused w h q P i p → ⊥))
-  unfolding plannedRings
-  left-means i p l lp = left-exactly w h n q P i p l lp
-
   -- "The top layer has none"
   pub top-no-posts : (p : ℕ) → 0 < n → p < h * w → postPixel (n - 1) p ≡ false
   top-no-posts p l lp = post-pixel (n - 1) p (omega arith) lp ∙ posts-top w h n r P (plannedRing w h n q part) p l lp
 
   -- "Each pixel left by the overhang is a post of that layer or joins one by touching pixels, itself the first, all left by the overhang and within the radius
   -- of some post of that layer"
-  pub left-held : (i p : ℕ) → suc i < n → p < h * w → left i p ≡ true →
-      (postPixel i p ≡ true) ⊎ ((k : ℕ) × Joined (h * w) (touch w) (λ o. left i o && near w h r (postPixel i) o) (postPixel i) k p)
+  pub left-held : (i p : ℕ) → suc i < n → p < h * w → L i p ≡ true →
+      (postPixel i p ≡ true) ⊎ ((k : ℕ) × Joined (h * w) (touch w) (λ o. L i o && near w h r (postPixel i) o) (postPixel i) k p)
   left-held i p l lp e =
-      holds-more w h r (left i) (left i) (postsAt w h n r P (plannedRing w h n q part) i) (postPixel i) (λ o lo t. t) (λ o lo t. post-pixel i o (omega arith) lo ∙ t) p lp
+      holds-more w h r (L i) (L i) (postsAt w h n r P (plannedRing w h n q part) i) (postPixel i) (λ o lo t. t) (λ o lo t. post-pixel i o (omega arith) lo ∙ t) p lp
       (post-or-joined w h n r P (plannedRing w h n q part) i p l lp e)
 
   -- "Each post above layer 0 stands on a post or on part"
@@ -100,7 +104,7 @@ module _ (w h n : ℕ) (q : ℕ → ℕ) (r : ℕ) (part : List ℕ) where
   pub post-goes-down : (i p : ℕ) → suc i < n → p < h * w → postPixel (suc i) p ≡ true → P i p ≡ false → postPixel i p ≡ true
   post-goes-down i p l lp e f = post-pixel i p (omega arith) lp ∙ posts-gone-down w h n r P (plannedRing w h n q part) i p l lp (at (suc i) p l lp e) f
 
-  pub post-comes-from : (i p : ℕ) → suc i < n → p < h * w → postPixel i p ≡ true → ((postPixel (suc i) p ≡ true) × (P i p ≡ false)) ⊎ (left i p ≡ true)
+  pub post-comes-from : (i p : ℕ) → suc i < n → p < h * w → postPixel i p ≡ true → ((postPixel (suc i) p ≡ true) × (P i p ≡ false)) ⊎ (L i p ≡ true)
   post-comes-from i p l lp e =
       ⊎-elim (λ (t, f). inl (post-pixel (suc i) p l lp ∙ t, f)) (λ t. inr t) (post-is-left w h n r P (plannedRing w h n q part) i p l lp (at i p (omega arith) lp e))
 
@@ -133,26 +137,28 @@ module _ (s : Settings) (r : Micrometres) (part old : List ℕ) (a : Planned) (n
   none = posts-done s r part old a (x .answer) e
 
   -- where the call says 0, the lent memory holds the posts, whatever it held
-  pub posts-left : new ≡ postsBytes (s .w) (s .h) (s .n) (boundOf s) (boundBy (s .pitch) r .0) part
-  posts-left = x .posts ∙ posts-fills s r part old none .1
+  pub posts-written : new ≡ postsBytes (s .w) (s .h) (s .n) (boundOf s) (boundBy (s .pitch) r .0) part
+  posts-written = x .posts ∙ posts-fills s r part old none .1
 
   abbrev q : ℕ
   q = boundBy (s .pitch) r .0
 
   -- so the two facts hold of it
-  pub call-holds : (i p : ℕ) → suc i < s .n → p < s .h * s .w → left (s .w) (s .h) (s .n) (boundOf s) q part i p ≡ true →
-      Holds (s .w) (s .h) q (left (s .w) (s .h) (s .n) (boundOf s) q part i) (pixel (s .w) (s .h) new i) p
-  call-holds i p l lp t = rw posts-left (left-held (s .w) (s .h) (s .n) (boundOf s) q part i p l lp t)
+  pub call-holds : (i p : ℕ) → suc i < s .n → p < s .h * s .w → left (s .w) (s .h) (s .n) (boundOf s) part i p ≡ true →
+      Holds (s .w) (s .h) q (left (s .w) (s .h) (s .n) (boundOf s) part i) (pixel (s .w) (s .h) new i) p
+  call-holds i p l lp t = rw posts-written (left-held (s .w) (s .h) (s .n) (boundOf s) q part i p l lp t)
 
-  pub call-stands : (i p : ℕ) → suc i < s .n → p < s .h * s .w → pixel (s .w) (s .h) new (suc i) p ≡ true → (pixel (s .w) (s .h) new i p ≡ true) ⊎ (pixel (s .w) (s .h) part i p ≡ true)
-  call-stands i p l lp = rw posts-left (post-stands (s .w) (s .h) (s .n) (boundOf s) q part i p l lp)
+  pub call-stands : (i p : ℕ) → suc i < s .n → p < s .h * s .w → pixel (s .w) (s .h) new (suc i) p ≡ true →
+      (pixel (s .w) (s .h) new i p ≡ true) ⊎ (pixel (s .w) (s .h) part i p ≡ true)
+  call-stands i p l lp = rw posts-written (post-stands (s .w) (s .h) (s .n) (boundOf s) q part i p l lp)
 
   -- a radius below the pitch: posts are the support that planning leaves, whatever memory is lent to it
-  pub posts-below-pitch : r .0 < s .pitch .0 → (sup ring : List ℕ) (b : Planned) (sup′ ring′ : List ℕ) → Plans s part sup ring b sup′ ring′ → saysPlanned b ≡ 0 ∷ [] → new ≡ sup′
+  pub posts-below-pitch : r .0 < s .pitch .0 → (sup ring : List ℕ) (b : Planned) (sup′ ring′ : List ℕ) →
+      Plans s part sup ring b sup′ ring′ → saysPlanned b ≡ 0 ∷ [] → new ≡ sup′
   unfolding planAnswer planSupport
   posts-below-pitch l sup ring b sup′ ring′ y f =
       let k : ℕ = planRefusal s part (length sup) (length ring) in
       let z : k ≡ 0 = said-none s part [] k (sym (ap saysPlanned (y .answer)) ∙ f) in
       let range = ranged s (posts-exactly s r part (length old) .0 none .settings) in
       let o : boundBy (s .pitch) r .0 ≡ 0 = bound-none (s .pitch) r (omega (arith, range .pitch-low)) l in
-      posts-left ∙ rw o (postsBytes-none (s .w) (s .h) (s .n) (boundOf s) part (range .h-low)) ∙ sym (y .support ∙ answer-fine k _ (λ j. sup) z)
+      posts-written ∙ rw o (postsBytes-none (s .w) (s .h) (s .n) (boundOf s) part (range .h-low)) ∙ sym (y .support ∙ answer-fine k _ (λ j. sup) z)

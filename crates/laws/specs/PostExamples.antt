@@ -37,7 +37,9 @@ pub posts-planes :
     posts-of (settings 5 5 2 100 100) 100 (0x00 ∷ 0x00 ∷ 0x00 ∷ 0x00 ∷ 0x00 ∷ 0xF8 ∷ 0xF8 ∷ 0xF8 ∷ 0xF8 ∷ 0xF8 ∷ [])
     ∷ posts-of (settings 5 5 2 100 100) 200 (0x00 ∷ 0x00 ∷ 0x00 ∷ 0x00 ∷ 0x00 ∷ 0xF8 ∷ 0xF8 ∷ 0xF8 ∷ 0xF8 ∷ 0xF8 ∷ [])
     ∷ []
-    ≡ (0xA8 ∷ 0x50 ∷ 0xA8 ∷ 0x50 ∷ 0xA8 ∷ 0x00 ∷ 0x00 ∷ 0x00 ∷ 0x00 ∷ 0x00 ∷ []) ∷ (0x90 ∷ 0x00 ∷ 0x48 ∷ 0x00 ∷ 0xA0 ∷ 0x00 ∷ 0x00 ∷ 0x00 ∷ 0x00 ∷ 0x00 ∷ []) ∷ []
+    ≡ (0xA8 ∷ 0x50 ∷ 0xA8 ∷ 0x50 ∷ 0xA8 ∷ 0x00 ∷ 0x00 ∷ 0x00 ∷ 0x00 ∷ 0x00 ∷ [])
+    ∷ (0x90 ∷ 0x00 ∷ 0x48 ∷ 0x00 ∷ 0xA0 ∷ 0x00 ∷ 0x00 ∷ 0x00 ∷ 0x00 ∷ 0x00 ∷ [])
+    ∷ []
 unfolding bit some each joinedUp first within sized rowBytes bitAt pixel rowsOf stackBytes padded paddingSet byteOf bytesOf ringAt settable reachOf square boundBy boundOf apart
     distance² shadow near seeds reached touch source touching fits grow grown ringPlane rings excused plannedRings leftBy goneDown listed spared scanned postsBelow
     postsFrom postsBytes reachCases settingCases postsCases postsRefusal postsPosts settings posts-of
@@ -49,7 +51,9 @@ pub posts-corners :
     posts-of (settings 3 3 2 100 0) 150 (0x00 ∷ 0x00 ∷ 0x00 ∷ 0xE0 ∷ 0xE0 ∷ 0xE0 ∷ [])
     ∷ posts-of (settings 3 3 2 100 0) 141 (0x00 ∷ 0x00 ∷ 0x00 ∷ 0xE0 ∷ 0xE0 ∷ 0xE0 ∷ [])
     ∷ []
-    ≡ (0xA0 ∷ 0x00 ∷ 0xA0 ∷ 0x00 ∷ 0x00 ∷ 0x00 ∷ []) ∷ (0xA0 ∷ 0x40 ∷ 0xA0 ∷ 0x00 ∷ 0x00 ∷ 0x00 ∷ []) ∷ []
+    ≡ (0xA0 ∷ 0x00 ∷ 0xA0 ∷ 0x00 ∷ 0x00 ∷ 0x00 ∷ [])
+    ∷ (0xA0 ∷ 0x40 ∷ 0xA0 ∷ 0x00 ∷ 0x00 ∷ 0x00 ∷ [])
+    ∷ []
 unfolding bit some each joinedUp first within sized rowBytes bitAt pixel rowsOf stackBytes padded paddingSet byteOf bytesOf ringAt settable reachOf square boundBy boundOf apart
     distance² shadow near seeds reached touch source touching fits grow grown ringPlane rings excused plannedRings leftBy goneDown listed spared scanned postsBelow
     postsFrom postsBytes reachCases settingCases postsCases postsRefusal postsPosts settings posts-of
@@ -61,7 +65,9 @@ pub posts-together :
     posts-of (settings 8 1 3 100 100) 200 (0x00 ∷ 0x70 ∷ 0x84 ∷ [])
     ∷ posts-of (settings 8 1 3 100 100) 200 (0x00 ∷ 0x20 ∷ 0x80 ∷ [])
     ∷ []
-    ≡ (0x84 ∷ 0x84 ∷ 0x00 ∷ []) ∷ (0xA0 ∷ 0x80 ∷ 0x00 ∷ []) ∷ []
+    ≡ (0x84 ∷ 0x84 ∷ 0x00 ∷ [])
+    ∷ (0xA0 ∷ 0x80 ∷ 0x00 ∷ [])
+    ∷ []
 unfolding bit some each joinedUp first within sized rowBytes bitAt pixel rowsOf stackBytes padded paddingSet byteOf bytesOf ringAt settable reachOf square boundBy boundOf apart
     distance² shadow near seeds reached touch source touching fits grow grown ringPlane rings excused plannedRings leftBy goneDown listed spared scanned postsBelow
     postsFrom postsBytes reachCases settingCases postsCases postsRefusal postsPosts settings posts-of
@@ -72,7 +78,8 @@ posts-together = refl
 pub posts-by-themselves :
     posts-of (settings 3 3 2 100 0) 200 (0x00 ∷ 0x00 ∷ 0x00 ∷ 0x80 ∷ 0x20 ∷ 0xC0 ∷ [])
     ∷ []
-    ≡ (0x80 ∷ 0x20 ∷ 0x80 ∷ 0x00 ∷ 0x00 ∷ 0x00 ∷ []) ∷ []
+    ≡ (0x80 ∷ 0x20 ∷ 0x80 ∷ 0x00 ∷ 0x00 ∷ 0x00 ∷ [])
+    ∷ []
 unfolding bit some each joinedUp first within sized rowBytes bitAt pixel rowsOf stackBytes padded paddingSet byteOf bytesOf ringAt settable reachOf square boundBy boundOf apart
     distance² shadow near seeds reached touch source touching fits grow grown ringPlane rings excused plannedRings leftBy goneDown listed spared scanned postsBelow
     postsFrom postsBytes reachCases settingCases postsCases postsRefusal postsPosts settings posts-of
@@ -85,7 +92,10 @@ pub posts-stop :
     ∷ posts-of (settings 8 1 4 100 100) 200 (0x80 ∷ 0x80 ∷ 0x40 ∷ 0x80 ∷ [])
     ∷ posts-of (settings 8 1 4 100 100) 200 (0x80 ∷ 0x80 ∷ 0x00 ∷ 0xE0 ∷ [])
     ∷ []
-    ≡ (0x00 ∷ 0x00 ∷ 0x80 ∷ 0x00 ∷ []) ∷ (0x40 ∷ 0x40 ∷ 0x80 ∷ 0x00 ∷ []) ∷ (0x00 ∷ 0x00 ∷ 0x80 ∷ 0x00 ∷ []) ∷ []
+    ≡ (0x00 ∷ 0x00 ∷ 0x80 ∷ 0x00 ∷ [])
+    ∷ (0x40 ∷ 0x40 ∷ 0x80 ∷ 0x00 ∷ [])
+    ∷ (0x00 ∷ 0x00 ∷ 0x80 ∷ 0x00 ∷ [])
+    ∷ []
 unfolding bit some each joinedUp first within sized rowBytes bitAt pixel rowsOf stackBytes padded paddingSet byteOf bytesOf ringAt settable reachOf square boundBy boundOf apart
     distance² shadow near seeds reached touch source touching fits grow grown ringPlane rings excused plannedRings leftBy goneDown listed spared scanned postsBelow
     postsFrom postsBytes reachCases settingCases postsCases postsRefusal postsPosts settings posts-of
@@ -95,35 +105,53 @@ posts-stop = refl
 pub posts-go-down :
     posts-of (settings 8 1 3 100 100) 200 (0x00 ∷ 0x00 ∷ 0x80 ∷ [])
     ∷ []
-    ≡ (0x80 ∷ 0x80 ∷ 0x00 ∷ []) ∷ []
+    ≡ (0x80 ∷ 0x80 ∷ 0x00 ∷ [])
+    ∷ []
 unfolding bit some each joinedUp first within sized rowBytes bitAt pixel rowsOf stackBytes padded paddingSet byteOf bytesOf ringAt settable reachOf square boundBy boundOf apart
     distance² shadow near seeds reached touch source touching fits grow grown ringPlane rings excused plannedRings leftBy goneDown listed spared scanned postsBelow
     postsFrom postsBytes reachCases settingCases postsCases postsRefusal postsPosts settings posts-of
 posts-go-down = refl
 
--- what a post grows through is what remains, joined as the neighbours of rule 3.5 are. In turn: column 3 of row 0 is excused, and not grown through; a pixel of the part
--- is not; a gap is not; nor is what a post from above took, row 0, column 3; the end of a row and the start of the next do not touch; and a way of four steps about a
--- corner is gone with a radius of three, for no steps are counted
-pub posts-around :
+-- "through remaining pixels": row 0, column 3 is excused and parts the bar; so does a pixel of the part; so do gaps; and so does what a post from above took, row 0,
+-- column 3 of the last, with the pixel below it. Other meanings: growing through what is excused, part, empty or taken
+pub posts-through :
     posts-of (settings 8 2 2 100 100) 700 (0x00 ∷ 0x10 ∷ 0xFF ∷ 0x10 ∷ [])
     ∷ posts-of (settings 8 1 2 100 0) 700 (0x10 ∷ 0xFF ∷ [])
     ∷ posts-of (settings 8 1 2 100 0) 300 (0x00 ∷ 0xDB ∷ [])
     ∷ posts-of (settings 8 3 3 100 0) 200 (0x00 ∷ 0x00 ∷ 0x00 ∷ 0x3E ∷ 0x10 ∷ 0x00 ∷ 0x00 ∷ 0x00 ∷ 0x10 ∷ [])
-    ∷ posts-of (settings 8 2 2 100 0) 800 (0x00 ∷ 0x00 ∷ 0x01 ∷ 0x80 ∷ [])
-    ∷ posts-of (settings 3 3 2 100 0) 300 (0x00 ∷ 0x00 ∷ 0x00 ∷ 0xA0 ∷ 0xA0 ∷ 0x40 ∷ [])
     ∷ []
-    ≡ (0x88 ∷ 0x00 ∷ 0x00 ∷ 0x00 ∷ []) ∷ (0x88 ∷ 0x00 ∷ []) ∷ (0x92 ∷ 0x00 ∷ []) ∷ (0x28 ∷ 0x00 ∷ 0x10 ∷ 0x00 ∷ 0x00 ∷ 0x10 ∷ 0x00 ∷ 0x00 ∷ 0x00 ∷ []) ∷ (0x01 ∷ 0x80 ∷ 0x00 ∷ 0x00 ∷ []) ∷ (0x80 ∷ 0x00 ∷ 0x00 ∷ 0x00 ∷ 0x00 ∷ 0x00 ∷ []) ∷ []
+    ≡ (0x88 ∷ 0x00 ∷ 0x00 ∷ 0x00 ∷ [])
+    ∷ (0x88 ∷ 0x00 ∷ [])
+    ∷ (0x92 ∷ 0x00 ∷ [])
+    ∷ (0x28 ∷ 0x00 ∷ 0x10 ∷ 0x00 ∷ 0x00 ∷ 0x10 ∷ 0x00 ∷ 0x00 ∷ 0x00 ∷ [])
+    ∷ []
 unfolding bit some each joinedUp first within sized rowBytes bitAt pixel rowsOf stackBytes padded paddingSet byteOf bytesOf ringAt settable reachOf square boundBy boundOf apart
     distance² shadow near seeds reached touch source touching fits grow grown ringPlane rings excused plannedRings leftBy goneDown listed spared scanned postsBelow
     postsFrom postsBytes reachCases settingCases postsCases postsRefusal postsPosts settings posts-of
-posts-around = refl
+posts-through = refl
+
+-- the end of a row and the start of the next do not touch, and corners do: a way of four steps from corner to corner is gone with a radius of three pixels, for no steps are
+-- counted. Other meanings: neighbours by number, four neighbours, the radius along the way
+pub posts-touching :
+    posts-of (settings 8 2 2 100 0) 800 (0x00 ∷ 0x00 ∷ 0x01 ∷ 0x80 ∷ [])
+    ∷ posts-of (settings 3 3 2 100 0) 300 (0x00 ∷ 0x00 ∷ 0x00 ∷ 0xA0 ∷ 0xA0 ∷ 0x40 ∷ [])
+    ∷ []
+    ≡ (0x01 ∷ 0x80 ∷ 0x00 ∷ 0x00 ∷ [])
+    ∷ (0x80 ∷ 0x00 ∷ 0x00 ∷ 0x00 ∷ 0x00 ∷ 0x00 ∷ [])
+    ∷ []
+unfolding bit some each joinedUp first within sized rowBytes bitAt pixel rowsOf stackBytes padded paddingSet byteOf bytesOf ringAt settable reachOf square boundBy boundOf apart
+    distance² shadow near seeds reached touch source touching fits grow grown ringPlane rings excused plannedRings leftBy goneDown listed spared scanned postsBelow
+    postsFrom postsBytes reachCases settingCases postsCases postsRefusal postsPosts settings posts-of
+posts-touching = refl
 
 -- what is left is left by the overhang, whatever the radius: column 1 alone is excused. And rows of two bytes
 pub posts-rows :
     posts-of (settings 8 1 2 100 100) 300 (0x80 ∷ 0xFF ∷ [])
     ∷ posts-of (settings 9 2 2 100 0) 300 (0x00 ∷ 0x00 ∷ 0x00 ∷ 0x00 ∷ 0xFF ∷ 0x80 ∷ 0x00 ∷ 0x80 ∷ [])
     ∷ []
-    ≡ (0x22 ∷ 0x00 ∷ []) ∷ (0x88 ∷ 0x80 ∷ 0x00 ∷ 0x00 ∷ 0x00 ∷ 0x00 ∷ 0x00 ∷ 0x00 ∷ []) ∷ []
+    ≡ (0x22 ∷ 0x00 ∷ [])
+    ∷ (0x88 ∷ 0x80 ∷ 0x00 ∷ 0x00 ∷ 0x00 ∷ 0x00 ∷ 0x00 ∷ 0x00 ∷ [])
+    ∷ []
 unfolding bit some each joinedUp first within sized rowBytes bitAt pixel rowsOf stackBytes padded paddingSet byteOf bytesOf ringAt settable reachOf square boundBy boundOf apart
     distance² shadow near seeds reached touch source touching fits grow grown ringPlane rings excused plannedRings leftBy goneDown listed spared scanned postsBelow
     postsFrom postsBytes reachCases settingCases postsCases postsRefusal postsPosts settings posts-of

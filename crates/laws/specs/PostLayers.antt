@@ -12,7 +12,7 @@ use borrow.Author.Tests.{eqb-true, eqb-false, eq-eqb, lt-ltb, le-ltb}
 use Rattle.rules.specs.Tools.{count, each, Found, nothing, found, first}
 use Rattle.rules.specs.Images.{Plane, Stack, Rings}
 use Rattle.rules.specs.Planning.{near, touch, grown}
-use Rattle.rules.specs.Posts.{leftBy, goneDown, planeOf, listed, foundThen, spared, scanned, postsBelow, postsFrom, stackOf}
+use Rattle.rules.specs.Posts.{leftBy, goneDown, planeOf, listed, spared, scanned, postsBelow, postsFrom, stackOf}
 use Rattle.laws.specs.Tests.{split, clash, and-l, and-r, or-r, or-out, or-false, and-true, and-false, getD-each, each-same, count-le, count-more}
 use Rattle.laws.specs.Growing.{grown-same, ring-joined}
 use Rattle.laws.specs.Places.{First, none-is, one-is, first-is, first-unique}
@@ -202,6 +202,10 @@ module _ (w h q : ℕ) where
   scan-only zero {rest} b (post {a = a} f r) = clash (f .remains) (none-counted rest b a (f .inside))
   scan-only (suc k) {rest} b (post {a = a} {l = l} f r) =
       ap (λ (x : List ℕ). a ∷ x) (scan-only k (omega (arith, scan-less rest a f)) r) ∙ sym (scan-first k rest a f)
+
+  -- so more steps change nothing
+  pub scan-ends : (k : ℕ) (rest : List Bool) → count (h * w) (planeOf rest) ≤ k → scanned w h q k rest ≡ scanned w h q (h * w) rest
+  scan-ends k rest b = scan-only (h * w) (count-le (h * w) (planeOf rest)) (scan-is k rest b)
 
   -- where the overhang leaves nothing, the posts gone down are all
   pub below-none : (left down : Plane) → ((p : ℕ) → p < h * w → left p ≡ false) → (p : ℕ) → p < h * w → planeOf (postsBelow w h q left down) p ≡ down p

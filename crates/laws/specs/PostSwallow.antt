@@ -1,9 +1,9 @@
 -- Line 3 of the chapter's Algorithm 4, and its step for each new anchor: GrowingSwallow(S, x, x, t) with the posts for x is what posts take away, but for
 -- their own pixels. "001's pseudo-code never removes the post's own pixel; ours does."
-use mathlib.Core.Path.{_≡_, refl, sym, ap, ap₂, _∙_}
+use mathlib.Core.Path.{_≡_, refl, sym, ap, _∙_}
 use mathlib.Core.Bool.{Bool, true, false, not, _&&_, _||_}
 use mathlib.Core.List.{List}
-use Prim.Native.Nat.{ℕ, zero, suc, _-_, _*_, _<_}
+use Prim.Native.Nat.{ℕ, zero, suc, _*_, _<_}
 use native.Mathlib.Nat.{zero-add}
 use native.Mathlib.Omega.{arith}
 use lib.Dec.{eqb}
@@ -12,7 +12,7 @@ use lib.Seq.{ext-getD}
 use borrow.Author.Tests.{eqb-true, eq-eqb}
 use Rattle.rules.specs.Tools.{each}
 use Rattle.rules.specs.Images.{Plane, Stack}
-use Rattle.rules.specs.Planning.{shadow, seeds, near, reached, touch, touching, Swallow, dilated, swallowed, growingSwallow}
+use Rattle.rules.specs.Planning.{shadow, seeds, near, reached, touch, Swallow, dilated, swallowed, growingSwallow}
 use Rattle.rules.specs.Demands.{Joined, start, onward}
 use Rattle.rules.specs.Posts.{leftBy, goneDown, planeOf, listed, spared, scanned}
 use Rattle.laws.specs.Tests.{split, bool-eq, and-l, and-r, and-in, or-r, or-false, and-true, and-false, length-each, getD-each, each-same}

@@ -7,13 +7,13 @@ use mathlib.Core.List.{List}
 use Prim.Native.Nat.{ℕ, zero, suc, _+_, _-_, _*_, _≤_, _<_}
 use native.Mathlib.Omega.{arith}
 use lib.Dec.{eqb, ltb}
-use borrow.Author.Tests.{eqb-true, eqb-false, eq-eqb, ltb-true, ltb-false, le-ltb}
+use borrow.Author.Tests.{eqb-true, eqb-false, eq-eqb, ltb-true, ltb-false}
 use Rattle.rules.specs.Tools.{count}
 use Rattle.rules.specs.Images.{Plane, Stack, Rings}
 use Rattle.rules.specs.Planning.{shadow, near, touch, planned, supportUnder, topOf, empty}
 use Rattle.rules.specs.Demands.{Joined, Excused}
-use Rattle.rules.specs.Posts.{leftBy, goneDown, planeOf, listed, spared, scanned, postsBelow, postsFrom}
-use Rattle.laws.specs.Tests.{split, clash, bool-eq, and-l, and-r, and-in, or-l, or-r, or-out, or-cases, or-false, and-false, not-in, not-out, count-le}
+use Rattle.rules.specs.Posts.{leftBy, goneDown, planeOf, listed, spared, scanned, postsBelow}
+use Rattle.laws.specs.Tests.{split, clash, and-l, and-r, and-in, or-l, or-r, or-out, or-false, not-in, not-out, count-le}
 use Rattle.laws.specs.Growing.{joined-more, ring-joined, ring-fewest}
 use Rattle.laws.specs.Soundness.{ringsOf, not-excused, planned-step, ringsOf-excused, ringsOf-fewest}
 use Rattle.laws.specs.Closing.{Inside, near-keeps}
@@ -57,7 +57,8 @@ module _ (w h q : ℕ) where
       (split (planeOf S p)
       (λ t. holds-more (planeOf S) (planeOf rest) new (λ o. eqb a o || new o) (spared-left w h q (planeOf rest) (eqb a)) (λ o lo u. or-r (eqb a o) _ u) p l
       (scan-holds k S (omega (arith, scan-less w h q rest a f)) p l t))
-      (λ t. holds-more (planeOf rest) (planeOf rest) (eqb a) (λ o. eqb a o || new o) (λ o lo u. u) (λ o lo u. or-l (eqb a o) _ u) p l (taken-holds (planeOf rest) (eqb a) p l e t))))
+      (λ t. holds-more (planeOf rest) (planeOf rest) (eqb a) (λ o. eqb a o || new o) (λ o lo u. u) (λ o lo u. or-l (eqb a o) _ u) p l
+      (taken-holds (planeOf rest) (eqb a) p l e t))))
 
   module _ (left down : Plane) where
     abbrev posts : Plane

@@ -297,7 +297,7 @@ module _ (s : Settings) (r : Micrometres) (part : List ℕ) (room : ℕ) where
               (λ f. absurd (never 19 behind-radius refl (rw f at e₁))),
         )),
     (λ (a, u). posts-behind a ∙ rw (⊎-elim
-        (λ l. or-l (not (settable (s .pitch) r)) _ (not-in (within 10 1000 (s .pitch .0) && leb (r .0) 10000) (rw (lt-leb (r .0) 10000 l) (and-false (within 10 1000 (s .pitch .0))))))
+        (λ l. or-l (not (settable (s .pitch) r)) _ (not-in (settable (s .pitch) r) (rw (lt-leb (r .0) 10000 l) (and-false (within 10 1000 (s .pitch .0))))))
         (λ l. or-r (not (settable (s .pitch) r)) _ (lt-ltb mostReach (r .0 / s .pitch .0) l)) u)),
   )
     where
