@@ -11,7 +11,7 @@ use lib.ListN.{getD}
 use borrow.Author.Tests.{eqb-true, eqb-false, eq-eqb, lt-ltb, le-ltb}
 use Rattle.rules.specs.Tools.{count, each, Found, nothing, found, first}
 use Rattle.rules.specs.Images.{Plane, Stack, Rings}
-use Rattle.rules.specs.Planning.{near, touch, grown}
+use Rattle.rules.specs.Planning.{shadow, seeds, near, reached, touch, grown}
 use Rattle.rules.specs.Posts.{leftBy, goneDown, planeOf, listed, spared, scanned, postsBelow, postsFrom, stackOf}
 use Rattle.laws.specs.Tests.{split, clash, and-l, and-r, or-r, or-out, or-false, and-true, and-false, getD-each, each-same, count-le, count-more}
 use Rattle.laws.specs.Growing.{grown-same, ring-joined}
@@ -93,6 +93,25 @@ module _ (w h q : ℕ) where
       bare r = split (eqb r 0)
           (λ z. rw (z, le-ltb 0 r (omega (arith, eqb-true r 0 z))))
           (λ z. rw (z, lt-ltb 0 r (omega (arith, eqb-false r 0 z))))
+
+  -- then what remains is what the planner would not excuse, by the bound of the radius, where the posts are the lower part and the upper has them and what is left
+  module _ (left posts up : Plane) (apart : (p : ℕ) → p < h * w → posts p ≡ true → left p ≡ false) (both : (p : ℕ) → p < h * w → up p ≡ (left p || posts p)) where
+    shadow-left : (p : ℕ) → p < h * w → left p ≡ shadow posts up p
+    unfolding shadow
+    shadow-left p l = split (posts p) (λ t. rw (both p l, t, apart p l t)) (λ f. rw (both p l, f) (sym (and-true (left p || false) ∙ or-false (left p))))
+
+    seeds-posts : (p : ℕ) → p < h * w → posts p ≡ seeds posts up p
+    unfolding seeds
+    seeds-posts p l = split (posts p) (λ t. rw (both p l, t) (sym (or-r (left p) true refl))) (λ f. rw f)
+
+    pub spared-as-planned : (p : ℕ) → p < h * w →
+        planeOf (spared w h q left posts) p ≡ (shadow posts up p && not (ltb 0 (getD (grown (h * w) (touch w) (reached w h q posts up) (seeds posts up) (h * w)) p 0)))
+    unfolding reached
+    spared-as-planned p l =
+        let e : grown (h * w) (touch w) (about left posts) posts (h * w) ≡ grown (h * w) (touch w) (reached w h q posts up) (seeds posts up) (h * w) =
+        grown-same (h * w) (touch w) (about left posts) (reached w h q posts up) posts (seeds posts up)
+        (λ o lo. ap (λ (b : Bool). b && near w h q posts o) (shadow-left o lo)) seeds-posts in
+        spared-apart left posts p l (apart p l) ∙ ap₂ (λ (a : Bool) (g : List ℕ). a && not (ltb 0 (getD g p 0))) (shadow-left p l) e
 
   -- only pixels that exist are asked
   pub spared-same : (rest rest′ posts posts′ : Plane) → ((p : ℕ) → p < h * w → rest p ≡ rest′ p) → ((p : ℕ) → p < h * w → posts p ≡ posts′ p) →
