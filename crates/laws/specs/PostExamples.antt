@@ -16,8 +16,8 @@ use Rattle.laws.specs.Examples.{settings}
 pub posts-of : Settings → ℕ → List ℕ → List ℕ
 posts-of s r part = postsPosts s (record { 0 = r }) part (each 0 (stackBytes s) (λ x. 0xAA))
 
--- a bar of eight pixels: the first pixel becomes a post and holds two beside it, then the next that remains. With a radius below the pitch each pixel is a post
--- (so the overhang is not taken for the radius, nor is the scan from the right), and one layer has none
+-- a bar of eight pixels: the first pixel becomes a post and holds two beside it, then the next that remains. With a radius below the pitch each pixel is a post, and one
+-- layer has none. Other meanings: the scan from the right, posts in the top layer, the overhang in place of the radius
 pub posts-pieces :
     posts-of (settings 8 1 2 100 100) 200 (0x00 ∷ 0xFF ∷ [])
     ∷ posts-of (settings 8 1 2 100 100) 0 (0x00 ∷ 0xFF ∷ [])
@@ -113,25 +113,28 @@ unfolding bit some each joinedUp first within sized rowBytes bitAt pixel rowsOf 
 posts-go-down = refl
 
 -- "through remaining pixels": row 0, column 3 is excused and parts the bar; so does a pixel of the part; so do gaps; and so does what a post from above took, row 0,
--- column 3 of the last, with the pixel below it. Other meanings: growing through what is excused, part, empty or taken
+-- column 3 of the fourth, with the pixel below it. Nor do posts from above grow through an excused pixel, row 0, column 1 of the last. Other meanings: growing through
+-- what is excused, part, empty or taken
 pub posts-through :
     posts-of (settings 8 2 2 100 100) 700 (0x00 ∷ 0x10 ∷ 0xFF ∷ 0x10 ∷ [])
     ∷ posts-of (settings 8 1 2 100 0) 700 (0x10 ∷ 0xFF ∷ [])
     ∷ posts-of (settings 8 1 2 100 0) 300 (0x00 ∷ 0xDB ∷ [])
     ∷ posts-of (settings 8 3 3 100 0) 200 (0x00 ∷ 0x00 ∷ 0x00 ∷ 0x3E ∷ 0x10 ∷ 0x00 ∷ 0x00 ∷ 0x00 ∷ 0x10 ∷ [])
+    ∷ posts-of (settings 8 2 3 100 100) 200 (0x00 ∷ 0x40 ∷ 0x60 ∷ 0x40 ∷ 0x80 ∷ 0x00 ∷ [])
     ∷ []
     ≡ (0x88 ∷ 0x00 ∷ 0x00 ∷ 0x00 ∷ [])
     ∷ (0x88 ∷ 0x00 ∷ [])
     ∷ (0x92 ∷ 0x00 ∷ [])
     ∷ (0x28 ∷ 0x00 ∷ 0x10 ∷ 0x00 ∷ 0x00 ∷ 0x10 ∷ 0x00 ∷ 0x00 ∷ 0x00 ∷ [])
+    ∷ (0xA0 ∷ 0x00 ∷ 0x80 ∷ 0x00 ∷ 0x00 ∷ 0x00 ∷ [])
     ∷ []
 unfolding bit some each joinedUp first within sized rowBytes bitAt pixel rowsOf stackBytes padded paddingSet byteOf bytesOf ringAt settable reachOf square boundBy boundOf apart
     distance² shadow near seeds reached touch source touching fits grow grown ringPlane rings excused plannedRings leftBy goneDown listed spared scanned postsBelow
     postsFrom postsBytes reachCases settingCases postsCases postsRefusal postsPosts settings posts-of
 posts-through = refl
 
--- the end of a row and the start of the next do not touch, and corners do: a way of four steps from corner to corner is gone with a radius of three pixels, for no steps are
--- counted. Other meanings: neighbours by number, four neighbours, the radius along the way
+-- the end of a row and the start of the next do not touch, and pixels at their corners do: a way of four steps, two of them over corners, is gone with a radius of three
+-- pixels, for no steps are counted. Other meanings: neighbours by number, four neighbours, the radius along the way
 pub posts-touching :
     posts-of (settings 8 2 2 100 0) 800 (0x00 ∷ 0x00 ∷ 0x01 ∷ 0x80 ∷ [])
     ∷ posts-of (settings 3 3 2 100 0) 300 (0x00 ∷ 0x00 ∷ 0x00 ∷ 0xA0 ∷ 0xA0 ∷ 0x40 ∷ [])
