@@ -14,7 +14,7 @@ use Rattle.rules.specs.Tools.{each}
 use Rattle.rules.specs.Images.{Plane, Stack}
 use Rattle.rules.specs.Planning.{shadow, seeds, near, reached, touch, Swallow, dilated, swallowed, growingSwallow}
 use Rattle.rules.specs.Demands.{Joined, start, onward}
-use Rattle.rules.specs.Posts.{leftBy, goneDown, planeOf, listed, spared, scanned}
+use Rattle.rules.specs.Posts.{leftBy, goneDown, planeOf, listed, spared, scanned, regionSubtractionSLA}
 use Rattle.laws.specs.Tests.{split, bool-eq, and-l, and-r, and-in, or-r, or-false, and-true, and-false, length-each, getD-each, each-same}
 use Rattle.laws.specs.Growing.{ring, ring-joined, ring-fewest, joined-more}
 use Rattle.laws.specs.Chapter.{same-always}
@@ -193,8 +193,9 @@ module _ (w h n r : ℕ) (q : ℕ → ℕ) (part : Stack) where
         ∙ ext-getD false S (outer i) (long ∙ sym (swallow-length (h * w) (touch w) (planeOf (inner i)) (PA i) (PA i) (near w h r (PA i)) (h * w)))
         (λ p lp. swallow-apart w h r (planeOf (inner i)) (PA i) (λ o lo t. sym (inner-is o lo) ∙ down-apart w h n r part (ringsOf w h n q part) i o l lo t) p (omega arith))
 
-    -- 4: Ã ← AnchorMapGen(S̃, ta), the scan; 5: A(i) ← Ã ∪ PA
-    pub region-subtraction-sla : (p : ℕ) → p < h * w → A i p ≡ (listed (scanned w h r (h * w) (outer i)) p || PA i p)
+    -- the posts of a layer are Algorithm 4's, by its lines
+    pub region-subtraction-sla : (p : ℕ) → p < h * w → A i p ≡ regionSubtractionSLA w h (q i) r (part i) (part (suc i)) (A (suc i)) p
+    unfolding regionSubtractionSLA
     region-subtraction-sla p lp =
         posts-step w h n r part (ringsOf w h n q part) i l p lp
         ∙ below-is w h r (leftBy part (ringsOf w h n q part) i) (PA i) p lp

@@ -69,8 +69,10 @@ wiped-more i d was mid now none n W D j u = elim (decLt j ((i + 5 * d) * 64)) [
   where
     go : (i * 64 + d * 320 ≤ j → j < i * 64 + d * 320 + 128 → ⊥) → wordBit mid j ≡ true → (wordBit was j ≡ true) × ((e : ℕ) → e < d + 1 → i * 64 + e * 320 ≤ j → j < i * 64 + e * 320 + 128 → ⊥)
     go out v =
-        let (x, y) = D j v in
-        (x, λ e l lo hi. elim (decLt e d) [
-          | yes p ↦ y e p lo hi
-          | no p ↦ let z : e ≡ d = omega arith in out (rw (← z) lo) (rw (← z) hi)
-        ])
+        let (x, y) = D j v in (
+          x,
+          λ e l lo hi. elim (decLt e d) [
+            | yes p ↦ y e p lo hi
+            | no p ↦ let z : e ≡ d = omega arith in out (rw (← z) lo) (rw (← z) hi)
+          ],
+        )

@@ -66,3 +66,12 @@ unfoldable pub postsBytes : ℕ → ℕ → ℕ → (ℕ → ℕ) → ℕ → Li
 postsBytes w h n q r part =
     let posts : List (List Bool) = postsFrom w h r (pixel w h part) (ringAt w h (plannedRings w h n q part)) (n - 1) 0 in
     bytesOf w h n (stackOf posts)
+
+-- Rule 11.7: Algorithm 4, RegionSubtractionSLA, by its lines, with A(i+1) in `above`. 1: Ψ ← P(i+1) − P(i); 2: PA ← A(i+1) − P(i); 3: S̃ ← GrowingSwallow(
+-- GrowingSwallow(Ψ, P(i), P(i+1), t), PA, PA, ta); 4: Ã ← AnchorMapGen(S̃, ta), which is the scan; 5: A(i) ← Ã ∪ PA
+unfoldable pub regionSubtractionSLA : ℕ → ℕ → ℕ → ℕ → Plane → Plane → Plane → Plane
+regionSubtractionSLA w h q r low up above p =
+    let PA : Plane = goneDown low above in
+    let inner : List Bool = growingSwallow (h * w) (touch w) (shadow low up) low up (near w h q low) (h * w) .S̃ in
+    let outer : List Bool = growingSwallow (h * w) (touch w) (planeOf inner) PA PA (near w h r PA) (h * w) .S̃ in
+    listed (scanned w h r (h * w) outer) p || PA p

@@ -101,13 +101,12 @@ loop-again c =
       omega (arith, c .before .greater .ensures, c .before .before .before .before .before .before .before .before .before .before .before .before .before .before .loop .inv .3, c .before .before .before .before .before .before .before .before .before .before .before .before .if1 .taken, c .before .before .before .before .before .before .before .before .before .before .before .before .before .lesser .ensures),
       omega (arith, c .before2 .ensures, c .before .before .before .before .before .before .before .before .before .before .before .before .before .before .loop .inv .4),
       λ q lq H was A S.
-      let (T, C) = c .before .before .before .before .before .before .before .before .before .before .before .before .before .before .loop .inv .5 q lq H was A S in
-      let D = half-at q (c .before .before .before .before .before .before .before .before .before .before .before .before .before .before .loop .d) _ lq H (omega (arith, c .before .before .before .before .before .before .before .before .before .before .before .before .if1 .taken, c .before .before .before .before .before .before .before .before .before .before .before .before .before .lesser .ensures)) in
-      (
-        taking-more q (c .before .before .before .before .before .before .before .before .before .before .before .before .before .before .before .before .before .before .before .before .args .y) (c .before .before .before .before .before .before .before .before .before .before .before .before .before .before .before .before .before .before .before .before .args .c) (c .before .before .before .before .before .before .before .before .before .before .before .before .before .before .before .before .word-of .result) lq lb (c .before .before .before .before .before .before .before .before .before .before .before .before .before .before .before .before .word-of .ensures .1) (c .before .before .before .before .before .before .before .before .before .before .before .before .before .before .before .before .word-of .ensures .0) was A (c .before .before .before .before .before .before .before .before .before .before .before .before .before .before .loop .rows) _ _ T (c .before .before .before .before .before .before .before .before .before .before .before .before .before .before .loop .d) _ (D .0) _ _ _ L (c .before .greater .result)
-            (c .before .before .before .before .before .before .before .look .kept .0 ∙ c .before .before .before .before .before .before .before .before .before .before .before .before .before .before .loop .inv .0) (c .before .before .before .before .before .before .before .look .kept .1 .0 ∙ c .before .before .before .before .before .before .before .before .before .before .before .before .before .before .loop .inv .1) (omega (arith, c .before .greater .ensures)) (λ t. omega (arith, c .before .greater .ensures)),
-        rw (c .before2 .ensures) (closed-back q (c .before .before .before .before .before .before .before .before .before .before .before .before .before .before .before .before .before .before .before .before .args .y) (c .before .before .before .before .before .before .before .before .before .before .before .before .before .before .before .before .before .before .before .before .args .c) (c .before .before .before .before .before .before .before .before .before .before .before .before .before .before .before .before .word-of .result) lq lb (c .before .before .before .before .before .before .before .before .before .before .before .before .before .before .before .before .word-of .ensures .1) (c .before .before .before .before .before .before .before .before .before .before .before .before .before .before .before .before .word-of .ensures .0) was A (c .before .before .before .before .before .before .before .before .before .before .before .before .before .before .loop .rows) _ _ T (c .before .before .before .before .before .before .before .before .before .before .before .before .before .before .loop .d) _ (D .0) _ _ _ L C),
-      ),
+          let (T, C) = c .before .before .before .before .before .before .before .before .before .before .before .before .before .before .loop .inv .5 q lq H was A S in
+          let D = half-at q (c .before .before .before .before .before .before .before .before .before .before .before .before .before .before .loop .d) _ lq H (omega (arith, c .before .before .before .before .before .before .before .before .before .before .before .before .if1 .taken, c .before .before .before .before .before .before .before .before .before .before .before .before .before .lesser .ensures)) in (
+            taking-more q (c .before .before .before .before .before .before .before .before .before .before .before .before .before .before .before .before .before .before .before .before .args .y) (c .before .before .before .before .before .before .before .before .before .before .before .before .before .before .before .before .before .before .before .before .args .c) (c .before .before .before .before .before .before .before .before .before .before .before .before .before .before .before .before .word-of .result) lq lb (c .before .before .before .before .before .before .before .before .before .before .before .before .before .before .before .before .word-of .ensures .1) (c .before .before .before .before .before .before .before .before .before .before .before .before .before .before .before .before .word-of .ensures .0) was A (c .before .before .before .before .before .before .before .before .before .before .before .before .before .before .loop .rows) _ _ T (c .before .before .before .before .before .before .before .before .before .before .before .before .before .before .loop .d) _ (D .0) _ _ _ L (c .before .greater .result)
+                (c .before .before .before .before .before .before .before .look .kept .0 ∙ c .before .before .before .before .before .before .before .before .before .before .before .before .before .before .loop .inv .0) (c .before .before .before .before .before .before .before .look .kept .1 .0 ∙ c .before .before .before .before .before .before .before .before .before .before .before .before .before .before .loop .inv .1) (omega (arith, c .before .greater .ensures)) (λ t. omega (arith, c .before .greater .ensures)),
+            rw (c .before2 .ensures) (closed-back q (c .before .before .before .before .before .before .before .before .before .before .before .before .before .before .before .before .before .before .before .before .args .y) (c .before .before .before .before .before .before .before .before .before .before .before .before .before .before .before .before .before .before .before .before .args .c) (c .before .before .before .before .before .before .before .before .before .before .before .before .before .before .before .before .word-of .result) lq lb (c .before .before .before .before .before .before .before .before .before .before .before .before .before .before .before .before .word-of .ensures .1) (c .before .before .before .before .before .before .before .before .before .before .before .before .before .before .before .before .word-of .ensures .0) was A (c .before .before .before .before .before .before .before .before .before .before .before .before .before .before .loop .rows) _ _ T (c .before .before .before .before .before .before .before .before .before .before .before .before .before .before .loop .d) _ (D .0) _ _ _ L C),
+          ),
     )
 
 add-d : tie.Need-add-d Inv-loop μ-loop
@@ -132,13 +131,12 @@ loop-again-2 c =
       c .before .before .before .before .before .before .before .before .before .before .before .before .loop .inv .3,
       omega (arith, c .before .before .before .before .before .before .before .before .before .before .if1 .taken, c .before .before .before .before .before .before .before .before .before .before .before .lesser .ensures),
       λ q lq H was A S.
-      let (T, C) = c .before .before .before .before .before .before .before .before .before .before .before .before .loop .inv .5 q lq H was A S in
-      let D = half-at q (c .before .before .before .before .before .before .before .before .before .before .before .before .loop .d) _ lq H (omega (arith, c .before .before .before .before .before .before .before .before .before .before .if1 .taken, c .before .before .before .before .before .before .before .before .before .before .before .lesser .ensures)) in
-      (
-        taking-more q (c .before .before .before .before .before .before .before .before .before .before .before .before .before .before .before .before .before .before .args .y) (c .before .before .before .before .before .before .before .before .before .before .before .before .before .before .before .before .before .before .args .c) (c .before .before .before .before .before .before .before .before .before .before .before .before .before .before .word-of .result) lq lb (c .before .before .before .before .before .before .before .before .before .before .before .before .before .before .word-of .ensures .1) (c .before .before .before .before .before .before .before .before .before .before .before .before .before .before .word-of .ensures .0) was A (c .before .before .before .before .before .before .before .before .before .before .before .before .loop .rows) _ _ T (c .before .before .before .before .before .before .before .before .before .before .before .before .loop .d) _ (D .0) _ _ _ L (c .before .before .before .before .before .before .before .before .before .before .before .before .loop .rows)
-            (c .before .before .before .before .before .look .kept .0 ∙ c .before .before .before .before .before .before .before .before .before .before .before .before .loop .inv .0) (c .before .before .before .before .before .look .kept .1 .0 ∙ c .before .before .before .before .before .before .before .before .before .before .before .before .loop .inv .1) (omega arith) (λ t. clash t (c .if2 .left)),
-        closed-next q (c .before .before .before .before .before .before .before .before .before .before .before .before .before .before .before .before .before .before .args .y) (c .before .before .before .before .before .before .before .before .before .before .before .before .before .before .before .before .before .before .args .c) (c .before .before .before .before .before .before .before .before .before .before .before .before .before .before .word-of .result) lq lb (c .before .before .before .before .before .before .before .before .before .before .before .before .before .before .word-of .ensures .1) (c .before .before .before .before .before .before .before .before .before .before .before .before .before .before .word-of .ensures .0) was A (c .before .before .before .before .before .before .before .before .before .before .before .before .loop .rows) _ _ T (c .before .before .before .before .before .before .before .before .before .before .before .before .loop .d) _ (D .0) _ _ _ L (c .if2 .left) C,
-      ),
+          let (T, C) = c .before .before .before .before .before .before .before .before .before .before .before .before .loop .inv .5 q lq H was A S in
+          let D = half-at q (c .before .before .before .before .before .before .before .before .before .before .before .before .loop .d) _ lq H (omega (arith, c .before .before .before .before .before .before .before .before .before .before .if1 .taken, c .before .before .before .before .before .before .before .before .before .before .before .lesser .ensures)) in (
+            taking-more q (c .before .before .before .before .before .before .before .before .before .before .before .before .before .before .before .before .before .before .args .y) (c .before .before .before .before .before .before .before .before .before .before .before .before .before .before .before .before .before .before .args .c) (c .before .before .before .before .before .before .before .before .before .before .before .before .before .before .word-of .result) lq lb (c .before .before .before .before .before .before .before .before .before .before .before .before .before .before .word-of .ensures .1) (c .before .before .before .before .before .before .before .before .before .before .before .before .before .before .word-of .ensures .0) was A (c .before .before .before .before .before .before .before .before .before .before .before .before .loop .rows) _ _ T (c .before .before .before .before .before .before .before .before .before .before .before .before .loop .d) _ (D .0) _ _ _ L (c .before .before .before .before .before .before .before .before .before .before .before .before .loop .rows)
+                (c .before .before .before .before .before .look .kept .0 ∙ c .before .before .before .before .before .before .before .before .before .before .before .before .loop .inv .0) (c .before .before .before .before .before .look .kept .1 .0 ∙ c .before .before .before .before .before .before .before .before .before .before .before .before .loop .inv .1) (omega arith) (λ t. clash t (c .if2 .left)),
+            closed-next q (c .before .before .before .before .before .before .before .before .before .before .before .before .before .before .before .before .before .before .args .y) (c .before .before .before .before .before .before .before .before .before .before .before .before .before .before .before .before .before .before .args .c) (c .before .before .before .before .before .before .before .before .before .before .before .before .before .before .word-of .result) lq lb (c .before .before .before .before .before .before .before .before .before .before .before .before .before .before .word-of .ensures .1) (c .before .before .before .before .before .before .before .before .before .before .before .before .before .before .word-of .ensures .0) was A (c .before .before .before .before .before .before .before .before .before .before .before .before .loop .rows) _ _ T (c .before .before .before .before .before .before .before .before .before .before .before .before .loop .d) _ (D .0) _ _ _ L (c .if2 .left) C,
+          ),
     )
 
 same-length : tie.Need-same-length Inv-loop μ-loop
@@ -150,9 +148,11 @@ same-length-2 c = c .before .before .loop .inv .1 ∙ sym (c .before .before .be
 returns : tie.Need-returns Inv-loop μ-loop
 returns c = (
   (λ was A S.
-  let (T, C) = c .before .before .loop .inv .5 _ (c .before .before .before .before .before .before .before .before .pre .4) (c .before .before .before .before .before .before .before .before .pre .5) was A S in
-  (T, closed-end _ (c .before .before .before .before .before .before .before .before .args .y) (c .before .before .before .before .before .before .before .before .args .c) (c .before .before .before .before .word-of .result) (c .before .before .before .before .before .before .before .before .pre .4) (c .before .before .before .before .word-of .ensures .1 (c .before .before .before .before .before .before .before .before .args .c) (c .before .before .before .before .before .before .before .before .pre .3) (omega arith) (omega arith) .0) (c .before .before .before .before .word-of .ensures .1) (c .before .before .before .before .word-of .ensures .0) was A (c .before .before .loop .rows) _ _ T
-  (c .before .before .loop .d) _ (c .before .before .before .before .before .before .before .before .pre .5 .half 0 (omega arith)) (beyond _ _ _ _ (c .before .lesser .ensures) (c .if1 .left)) C)),
+      let (T, C) = c .before .before .loop .inv .5 _ (c .before .before .before .before .before .before .before .before .pre .4) (c .before .before .before .before .before .before .before .before .pre .5) was A S in (
+        T,
+        closed-end _ (c .before .before .before .before .before .before .before .before .args .y) (c .before .before .before .before .before .before .before .before .args .c) (c .before .before .before .before .word-of .result) (c .before .before .before .before .before .before .before .before .pre .4) (c .before .before .before .before .word-of .ensures .1 (c .before .before .before .before .before .before .before .before .args .c) (c .before .before .before .before .before .before .before .before .pre .3) (omega arith) (omega arith) .0) (c .before .before .before .before .word-of .ensures .1) (c .before .before .before .before .word-of .ensures .0) was A (c .before .before .loop .rows) _ _ T
+            (c .before .before .loop .d) _ (c .before .before .before .before .before .before .before .before .pre .5 .half 0 (omega arith)) (beyond _ _ _ _ (c .before .lesser .ensures) (c .if1 .left)) C,
+      )),
   omega (arith, c .before .before .loop .inv .3, c .before .before .before .before .before .before .before .before .pre .5 .last),
 )
 
