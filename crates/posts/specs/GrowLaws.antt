@@ -17,6 +17,8 @@ use Rattle.laws.specs.Discs.{HalfWidth, Halves, square-small}
 use Rattle.laws.specs.Tests.{split, clash, bool-eq, and-l, and-r, and-in, and-true, or-l, or-r, or-out, or-false, not-in, not-out, count-mono, count-more}
 use Rattle.words.specs.Words.{wordBit, Within}
 use Rattle.planes.specs.Scratch.{spot}
+use Rattle.pair.specs.Found.{Empty}
+use Rattle.posts.specs.TwoLaws.{WipedTo}
 use Rattle.posts.specs.Taking.{Next, Spreads, Beside, Columns, Looked, discBit, Taking, Ahead, ClosedTo, Closed}
 
 -- the disc ---------------------------------------------------------------------------------------------------------------
@@ -145,6 +147,19 @@ module _ (q y c b : ℕ) (lq : q ≤ mostBound) (lb : b * 64 ≤ c) (W : (j : �
       | yes l ↦ C j o l r x g n
       | no l ↦ ⊎-elim (λ z. omega (arith, S .deep o g, n .0)) (λ z. omega (arith, disc-rows q y c reach j H x)) e
     ]
+
+    -- what is got is gone once the two words are empty in its rows
+    pub wiped : (got' : List ℕ) → length got' ≡ 1610 → WipedTo ((y + 33) * 5 + b) rows got got' → Empty got'
+    wiped got' l E = record {
+      long = l;
+      none = λ j. split (wordBit got' j)
+          (λ e.
+          let (g, n) = E j e in
+          let (lo, hi) = got-columns j g in
+          let (u, v) = S .deep j g in
+          absurd (n (j / 320 - (y + 33)) (omega arith) (omega (arith, div-add-mod' j 320)) (omega (arith, div-add-mod' j 320))))
+          (λ e. e);
+    }
 
     module _ (d by : ℕ) (H : HalfWidth q d by) (rest' got' : List ℕ) (told : Bool) (L : Looked (y + 33 + d) b (aboutOf (c - b * 64) by) told rest got rest' got') where
       abbrev base : ℕ
