@@ -7,4 +7,5 @@ pub mod TwoLaws
 pub mod AlongLaws
 pub mod LookLaws
 pub mod GrowLaws
+pub mod TakeLaws
 pub mod ScanLaws

@@ -135,9 +135,14 @@ module _ (w h : ℕ) (z : Sizes w h) (was : List ℕ) (F : Framed w h was) (y c 
         let u = and-l (leb 33 (j / 320) && ltb (j / 320) (h + 33) && ltb (j % 320) w) _ t in
         let v = and-l (leb 33 (j / 320) && ltb (j / 320) (h + 33)) _ u in
         let lo : 33 ≤ j / 320 = leb-true 33 _ (and-l (leb 33 (j / 320)) _ v) in
-        let hi : j / 320 < h + 33 = ltb-true _ _ (and-r (leb 33 (j / 320)) _ v) in
-        (j / 320 - 33, j % 320, omega arith, ltb-true _ w (and-r (leb 33 (j / 320) && ltb (j / 320) (h + 33)) _ u), omega (arith, div-add-mod' j 320),
-        and-r (leb 33 (j / 320) && ltb (j / 320) (h + 33) && ltb (j % 320) w) _ t)
+        let hi : j / 320 < h + 33 = ltb-true _ _ (and-r (leb 33 (j / 320)) _ v) in (
+          j / 320 - 33,
+          j % 320,
+          omega arith,
+          ltb-true _ w (and-r (leb 33 (j / 320) && ltb (j / 320) (h + 33)) _ u),
+          omega (arith, div-add-mod' j 320),
+          and-r (leb 33 (j / 320) && ltb (j / 320) (h + 33) && ltb (j % 320) w) _ t,
+        )
 
     step : (p o : ℕ) → p < h * w → o < h * w → free p ≡ true → touch w p o ≡ true → taken o ≡ true → taken p ≡ true
     step p o lp lo f t u = or-r (eqb a p) _ (lt-ltb 0 (ring p) (⊎-elim

@@ -69,8 +69,7 @@ returns c =
     taking-start _ y x was _ _ (c .before .before .before .before .before .before .before .before .before .before .before .before .before .before .before .before .before .before .before .before .before .before .before .args .got .now) lx (c .before .before .before .before .before .before .before .before .before .before .before .before .before .before .before .before .before .before .clear-bit .kept .0 ∙ c .before .before .before .before .before .before .before .before .before .before .before .before .before .before .before .before .before .before .before .before .before .before .before .pre .0 .1 .long) (c .before .before .before .before .before .before .before .before .before .before .before .before .before .before .set-bit .kept .0 ∙ c .before .before .before .before .before .before .before .before .before .before .before .before .before .before .before .before .before .before .before .before .before .before .before .pre .0 .2 .long) (c .before .before .before .before .before .before .before .before .before .before .before .before .before .before .before .before .before .before .before .before .before .before .before .pre .0 .2) (c .before .before .before .before .before .before .before .before .before .before .before .before .before .before .before .before .before .before .before .before .before .before .before .pre .1 .0)
     (rw (own-bit y x) at (c .before .before .before .before .before .before .before .before .before .before .before .before .before .before .before .before .before .before .clear-bit .ensures .0)) (rw (own-bit y x) at (c .before .before .before .before .before .before .before .before .before .before .before .before .before .before .set-bit .ensures)) in
     let (T, C) = c .before .before .before .before .before .before .before .before .before .grow .ensures .0 was A S in
-    let W = c .before .before .before .word-of .ensures in
-    (
+    let W = c .before .before .before .word-of .ensures in (
       (
         still-ready (c .before .before .before .before .before .before .before .before .before .before .before .before .before .before .before .before .before .before .before .before .before .before .before .args .w) (c .before .before .before .before .before .before .before .before .before .before .before .before .before .before .before .before .before .before .before .before .before .before .before .args .h) (c .before .before .before .before .before .before .before .before .before .before .before .before .before .before .before .before .before .before .before .before .before .before .before .pre .0 .0) was (c .before .before .before .before .before .before .before .before .before .before .before .before .before .before .before .before .before .before .before .before .before .before .before .pre .0 .1 .framed) y x (c .before .before .before .before .before .before .before .before .before .before .before .before .before .before .before .before .before .before .before .before .before .before .before .pre .0 .3) (c .before .before .before .before .before .before .before .before .before .before .before .before .before .before .before .before .before .before .before .before .before .before .before .pre .0 .4) _ _ _ _ T C,
         wiped _ y x (c .before .before .before .word-of .result) lq (W .1 x lx (omega arith) (omega arith) .0) (W .1) (W .0) was A _ _ _ T _ (c .before .before .wipe .kept .0 ∙ c .before .before .before .before .before .before .before .before .before .grow .kept .1 .0 ∙ c .before .before .before .before .before .before .before .before .before .before .before .before .before .before .set-bit .kept .0 ∙ c .before .before .before .before .before .before .before .before .before .before .before .before .before .before .before .before .before .before .before .before .before .before .before .pre .0 .2 .long) (c .before .before .wipe .ensures),
