@@ -9,3 +9,6 @@ pub mod LookLaws
 pub mod GrowLaws
 pub mod TakeLaws
 pub mod ScanLaws
+pub mod LayerLaws
+pub mod StackLaws
+pub mod CallLaws
