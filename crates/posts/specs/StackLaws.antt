@@ -6,7 +6,7 @@ use Prim.Native.Nat.{ℕ, suc, _+_, _-_, _*_, _≤_, _<_}
 use native.Mathlib.Nat.{mul-assoc, zero-mul}
 use native.Mathlib.Numerals.{add-one}
 use native.Mathlib.Omega.{arith}
-use borrow.Rule.Slice.PartMut.{midOf, putMid}
+use borrow.Rule.Slice.PartMut.{putMid, same-len-mid}
 use lib.ListN.{length, getD, take, drop, replicate, length-replicate}
 use lib.Seq.{length-take-le}
 use Rattle.rules.specs.Images.{Plane, rowBytes, pixel, bytesOf, ringAt}
@@ -18,15 +18,29 @@ use Rattle.laws.specs.Tests.{length-each, clash}
 use Rattle.image.specs.Packed.{plane-at, plane-pixel, plane-bytes, stack-plane}
 use Rattle.image.specs.Planes.{row-next}
 use Rattle.image.specs.Rows.{Packs, packed, planeBytes, plane, OnlyPlane}
-use Rattle.image.specs.Stretches.{put-plane, put-only}
+use Rattle.image.specs.Stretches.{mid-put, put-plane, put-only}
 use Rattle.pair.specs.PairLaws.{rings-same, packs-same}
 use Rattle.pair.specs.Pairs.{pairRings, unexcused}
-use Rattle.plan.specs.StackLaws.{from-end, from-all, from-more, rings-plane, layer-room, cutLow, cutUp, low-plane}
+use Rattle.plan.specs.StackLaws.{from-end, from-all, from-more, rings-plane, layer-room, cutLow, cutUp, low-plane, lent-support}
 use Rattle.posts.specs.Stacks.{postsStack, Down}
 
 -- what is lent of fresh scratch
 pub fresh-long : (k n : ℕ) → k ≤ n → length (take k (replicate {A = ℕ} n 0)) ≡ k
 fresh-long k n l = length-take-le k (replicate n 0) (omega (arith, length-replicate {A = ℕ} n 0))
+
+-- a stretch that was worked on and given back
+module _ (w h n size i : ℕ) (posts ys : List ℕ) (es : size ≡ h * rowBytes w) (ls : length posts ≡ n * h * rowBytes w) (li : i < n) (ly : length ys ≡ length (cutLow size i posts)) where
+  abbrev given : List ℕ
+  given = putMid (i * size) (i * size + size - i * size) posts ys
+
+  pub given-long : length ys ≡ h * rowBytes w
+  given-long = ly ∙ lent-support w h n size i posts es ls li
+
+  pub given-room : i * size + size ≤ length given
+  given-room = omega (arith, layer-room w h n size i (length posts) es ls li, same-len-mid (i * size) (i * size + size - i * size) posts ys ly)
+
+  pub given-back : cutLow size i given ≡ ys
+  given-back = mid-put (i * size) (i * size + size - i * size) posts ys (omega (arith, layer-room w h n size i (length posts) es ls li)) (given-long ∙ sym es ∙ omega arith)
 
 up-plane : (size i : ℕ) (part : List ℕ) → cutUp size i part ≡ plane size (suc i) part
 up-plane size i part =
@@ -91,7 +105,7 @@ module _ (w h n q r : ℕ) (lw : 0 < w) (part : List ℕ) (long : length part �
   left-at i p l lp = rw (layer-pixel i p lp, layer-pixel (suc i) p lp, ring-at i p l lp)
 
   -- one layer more
-  module _ (i : ℕ) (posts above above' : List ℕ) (li : suc i < n) (D : Down w h n q r (i + 1) part posts above) where
+  module _ (i : ℕ) (posts above ys : List ℕ) (li : suc i < n) (D : Down w h n q r (i + 1) part posts above) where
     above-at : (p : ℕ) → p < h * w → packed w above p ≡ postsStack w h n q r part (suc i) p
     above-at p lp = D .above-is .pixels p lp ∙ ap (λ (x : ℕ). postsStack w h n q r part x p) (add-one i)
 
@@ -105,13 +119,13 @@ module _ (w h n q r : ℕ) (lw : 0 < w) (part : List ℕ) (long : length part �
         (λ o lo. left-at i o li lo) (λ o lo. ap₂ (λ (a b : Bool). a && not b) (above-at o lo) (layer-pixel i o lo)))
         ∙ sym (posts-step w h n r (pixel w h part) rings i li p lp)
 
-    down-more : (posts' : List ℕ) → OnlyPlane (h * rowBytes w) i posts' posts → plane (h * rowBytes w) i posts' ≡ above' → ((b : ℕ) → getD above' b 0 < 256)
-        → Packs w h (planeOf (postsBelow w h r (unexcused w h q (layer i) (layer (suc i))) (goneDown (layer i) (packed w above)))) above'
-        → Down w h n q r i part posts' above'
+    down-more : (posts' : List ℕ) → OnlyPlane (h * rowBytes w) i posts' posts → plane (h * rowBytes w) i posts' ≡ ys → ((b : ℕ) → getD ys b 0 < 256)
+        → Packs w h (planeOf (postsBelow w h r (unexcused w h q (layer i) (layer (suc i))) (goneDown (layer i) (packed w above)))) ys
+        → Down w h n q r i part posts' ys
     down-more posts' o e small a =
-        let A : Packs w h (postsStack w h n q r part i) above' = packs-same w h lw _ (postsStack w h n q r part i) above' layer-posts a in
+        let A : Packs w h (postsStack w h n q r part i) ys = packs-same w h lw _ (postsStack w h n q r part i) ys layer-posts a in
         record {
-          posts-done = from-more (h * rowBytes w) i posts' posts all o (D .posts-done) (e ∙ posts-plane i above' (omega arith) small A);
+          posts-done = from-more (h * rowBytes w) i posts' posts all o (D .posts-done) (e ∙ posts-plane i ys (omega arith) small A);
           above-is = A;
         }
 
@@ -122,24 +136,31 @@ module _ (w h n q r : ℕ) (lw : 0 < w) (part : List ℕ) (long : length part �
         let on : pixel w h part (suc i) p ≡ true = sym (layer-pixel (suc i) p lp) ∙ ap (λ (s : List ℕ). packed w s p) (sym e) ∙ u in
         clash on (posts-clear w h n r (pixel w h part) rings (suc i) p li lp (sym (above-at p lp) ∙ a))
 
-    -- layer i, worked on in its stretch: above' has its posts
+    -- layer i, worked on in its stretch
     abbrev LayerDone : ℕ → Type 0
     LayerDone size =
-        length above' ≡ length (midOf (i * size) (i * size + size - i * size) posts) → ((b : ℕ) → getD above' b 0 < 256)
-        → Packs w h (planeOf (postsBelow w h r (unexcused w h q (packed w (cutLow size i part)) (packed w (cutUp size i part))) (goneDown (packed w (cutLow size i part)) (packed w above)))) above'
-        → Down w h n q r i part (putMid (i * size) (i * size + size - i * size) posts above') above'
+        length ys ≡ length (cutLow size i posts) → ((b : ℕ) → getD ys b 0 < 256)
+        → Packs w h (planeOf (postsBelow w h r (unexcused w h q (packed w (cutLow size i part)) (packed w (cutUp size i part))) (goneDown (packed w (cutLow size i part)) (packed w above)))) ys
+        → Down w h n q r i part (putMid (i * size) (i * size + size - i * size) posts ys) ys
 
     layer-done-at : length posts ≡ n * h * rowBytes w → LayerDone (h * rowBytes w)
     layer-done-at ls ly small a =
         let size : ℕ = h * rowBytes w in
         let room : (i + 1) * size ≤ length posts = omega (arith, row-next i size, layer-room w h n size i (length posts) refl ls (omega arith)) in
-        down-more (putMid (i * size) (i * size + size - i * size) posts above') (put-only size i posts above' room ly) (put-plane size i posts above' room ly) small
-        (subst (λ (x : List ℕ). Packs w h (planeOf (postsBelow w h r (unexcused w h q (packed w x) (layer (suc i))) (goneDown (packed w x) (packed w above)))) above') (low-plane size i part)
+        down-more (putMid (i * size) (i * size + size - i * size) posts ys) (put-only size i posts ys room ly) (put-plane size i posts ys room ly) small
+        (subst (λ (x : List ℕ). Packs w h (planeOf (postsBelow w h r (unexcused w h q (packed w x) (layer (suc i))) (goneDown (packed w x) (packed w above)))) ys) (low-plane size i part)
         (subst (λ (y : List ℕ). Packs w h
-        (planeOf (postsBelow w h r (unexcused w h q (packed w (cutLow size i part)) (packed w y)) (goneDown (packed w (cutLow size i part)) (packed w above)))) above') (up-plane size i part) a))
+        (planeOf (postsBelow w h r (unexcused w h q (packed w (cutLow size i part)) (packed w y)) (goneDown (packed w (cutLow size i part)) (packed w above)))) ys) (up-plane size i part) a))
 
-    pub layer-done : length posts ≡ n * h * rowBytes w → (size : ℕ) → size ≡ h * rowBytes w → LayerDone size
-    layer-done ls size es = subst LayerDone (sym es) (layer-done-at ls)
+    -- above' is the stretch that was given back
+    pub layer-done : length posts ≡ n * h * rowBytes w → (size : ℕ) → size ≡ h * rowBytes w → length ys ≡ length (cutLow size i posts) → (above' : List ℕ)
+        → above' ≡ cutLow size i (putMid (i * size) (i * size + size - i * size) posts ys) → ((b : ℕ) → getD above' b 0 < 256)
+        → Packs w h (planeOf (postsBelow w h r (unexcused w h q (packed w (cutLow size i part)) (packed w (cutUp size i part))) (goneDown (packed w (cutLow size i part)) (packed w above)))) ys
+        → Down w h n q r i part (putMid (i * size) (i * size + size - i * size) posts ys) above'
+    layer-done ls size es ly above' ea small a =
+        let e : above' ≡ ys = ea ∙ given-back w h n size i posts ys es ls (omega arith) ly in
+        subst (Down w h n q r i part (putMid (i * size) (i * size + size - i * size) posts ys)) (sym e)
+        (subst LayerDone (sym es) (layer-done-at ls) ly (λ b. subst (λ (x : List ℕ). getD x b 0 < 256) e (small b)) a)
 
   -- the lowest layer is reached
   pub down-end : (posts above : List ℕ) → length posts ≡ n * h * rowBytes w → Down w h n q r 0 part posts above → posts ≡ postsBytes w h n (λ k. q) r part

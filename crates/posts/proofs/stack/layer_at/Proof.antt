@@ -1,16 +1,10 @@
-use mathlib.Core.Path.{_≡_, sym, ap, subst, _∙_}
-use mathlib.Core.List.{List}
-use Prim.Native.Nat.{ℕ, _-_, _+_, _*_}
-use borrow.Rule.Slice.PartMut.{same-len-mid, putMid}
+use mathlib.Core.Path.{sym, ap, _∙_}
+use Prim.Native.Nat.{_-_, _+_, _*_}
+use borrow.Rule.Slice.PartMut.{same-len-mid}
 use lib.ListN.{length}
-use Rattle.rules.specs.Posts.{goneDown, planeOf, postsBelow}
-use Rattle.image.specs.Rows.{packed, Packs}
-use Rattle.image.specs.Stretches.{mid-put}
 use Rattle.pair.specs.PairLaws.{plane-size}
-use Rattle.pair.specs.Pairs.{unexcused}
-use Rattle.plan.specs.StackLaws.{layer-room, up-room, lent-low, lent-up, lent-support, cutLow, cutUp}
-use Rattle.posts.specs.StackLaws.{above-apart, layer-done}
-use Rattle.posts.specs.Stacks.{Down}
+use Rattle.plan.specs.StackLaws.{layer-room, up-room, lent-low, lent-up, lent-support}
+use Rattle.posts.specs.StackLaws.{above-apart, layer-done, given-long, given-room, given-back}
 use native.Mathlib.Omega.{arith}
 use borrow.Author.Needs.{needs}
 use Rattle.posts.proofs.stack.layer_at.Statement.{statement}
@@ -99,14 +93,9 @@ part-put-end c =
     let b55 = b43 .before .before .before .before .before .before .before .before .before .before .before .before in
     let A = b55 .args in
     let P = b55 .pre in
-    let B = P .1 .0 .0 in
     let L = b23 .layer in
-    let size = A .h * A .rb in
-    let es = plane-size (A .w) (A .h) (A .rb) (P .0 .0) .0 in
-    let room = layer-room (A .w) (A .h) (A .n) size (A .i) (length (A .posts .now)) es (B .posts-long) (omega (arith, P .0 .6)) in
-    let lent = lent-support (A .w) (A .h) (A .n) size (A .i) (A .posts .now) es (B .posts-long) (omega (arith, P .0 .6)) in
-    let X = L .last .1 .1 .1 .1 .0 in
-    omega (arith, room, same-len-mid (A .i * size) (A .i * size + size - A .i * size) (A .posts .now) X (L .kept .1 .1 .1 .1 .0))
+    given-room (A .w) (A .h) (A .n) (A .h * A .rb) (A .i) (A .posts .now) (L .last .1 .1 .1 .1 .0) (plane-size (A .w) (A .h) (A .rb) (P .0 .0) .0) (P .1 .0 .0 .posts-long) (omega (arith, P .0 .6))
+    (L .kept .1 .1 .1 .1 .0)
 
 put-requires : tie.Need-put-requires
 put-requires c κs =
@@ -116,15 +105,13 @@ put-requires c κs =
     let b57 = b45 .before .before .before .before .before .before .before .before .before .before .before .before in
     let A = b57 .args in
     let P = b57 .pre in
-    let B = P .1 .0 .0 in
     let L = b25 .layer in
-    let size = A .h * A .rb in
+    let ys = L .last .1 .1 .1 .1 .0 in
     let es = plane-size (A .w) (A .h) (A .rb) (P .0 .0) .0 in
-    let room = layer-room (A .w) (A .h) (A .n) size (A .i) (length (A .posts .now)) es (B .posts-long) (omega (arith, P .0 .6)) in
-    let lent = lent-support (A .w) (A .h) (A .n) size (A .i) (A .posts .now) es (B .posts-long) (omega (arith, P .0 .6)) in
-    let X = L .last .1 .1 .1 .1 .0 in
-    P .1 .1 .0 .above-is .clean .long ∙ sym (ap length (mid-put (A .i * size) (A .i * size + size - A .i * size) (A .posts .now) X (omega (arith, room))
-    (L .kept .1 .1 .1 .1 .0 ∙ lent ∙ sym es ∙ omega arith)) ∙ L .kept .1 .1 .1 .1 .0 ∙ lent)
+    let ls = P .1 .0 .0 .posts-long in
+    P .1 .1 .0 .above-is .clean .long
+    ∙ sym (ap length (given-back (A .w) (A .h) (A .n) (A .h * A .rb) (A .i) (A .posts .now) ys es ls (omega (arith, P .0 .6)) (L .kept .1 .1 .1 .1 .0))
+    ∙ given-long (A .w) (A .h) (A .n) (A .h * A .rb) (A .i) (A .posts .now) ys es ls (omega (arith, P .0 .6)) (L .kept .1 .1 .1 .1 .0))
 
 same-length : tie.Need-same-length
 same-length c =
@@ -208,22 +195,11 @@ returns c =
     let b60 = b48 .before .before .before .before .before .before .before .before .before .before .before .before in
     let A = b60 .args in
     let P = b60 .pre in
-    let B = P .1 .0 .0 in
     let L = b28 .layer in
-    let size = A .h * A .rb in
-    let es = plane-size (A .w) (A .h) (A .rb) (P .0 .0) .0 in
-    let room = layer-room (A .w) (A .h) (A .n) size (A .i) (length (A .posts .now)) es (B .posts-long) (omega (arith, P .0 .6)) in
-    let lent = lent-support (A .w) (A .h) (A .n) size (A .i) (A .posts .now) es (B .posts-long) (omega (arith, P .0 .6)) in
-    let X = L .last .1 .1 .1 .1 .0 in
-    let T = c .before .before .put in
-    let above′ = T .last .1 .0 in
-    let e : above′ ≡ X = T .ensures ∙ mid-put (A .i * size) (A .i * size + size - A .i * size) (A .posts .now) X (omega (arith, room)) (L .kept .1 .1 .1 .1 .0 ∙ lent ∙ sym es ∙ omega arith) in (
-      subst (λ (ys : List ℕ). Down (A .w) (A .h) (A .n) (A .q .0) (A .r .0) (A .i) (A .part .now) (putMid (A .i * size) (A .i * size + size - A .i * size) (A .posts .now) ys) above′) e
-          (layer-done (A .w) (A .h) (A .n) (A .q .0) (A .r .0) (P .0 .0 .sizes .w-min) (A .part .now) (B .part-long) (A .i) (A .posts .now) (A .above .now) above′ (P .0 .6) (P .1 .1 .0)
-          (B .posts-long) size es (T .kept .1 .0 ∙ P .1 .1 .0 .above-is .clean .long ∙ sym lent) (λ b. c .slice-known24 .given b .fits)
-          (subst (Packs (A .w) (A .h) (planeOf (postsBelow (A .w) (A .h) (A .r .0)
-          (unexcused (A .w) (A .h) (A .q .0) (packed (A .w) (cutLow size (A .i) (A .part .now))) (packed (A .w) (cutUp size (A .i) (A .part .now))))
-          (goneDown (packed (A .w) (cutLow size (A .i) (A .part .now))) (packed (A .w) (A .above .now)))))) (sym e) (L .ensures .0))),
+    let B = P .1 .0 .0 in
+    let T = c .before .before .put in (
+      layer-done (A .w) (A .h) (A .n) (A .q .0) (A .r .0) (P .0 .0 .sizes .w-min) (A .part .now) (B .part-long) (A .i) (A .posts .now) (A .above .now) (L .last .1 .1 .1 .1 .0) (P .0 .6) (P .1 .1 .0)
+          (B .posts-long) (A .h * A .rb) (plane-size (A .w) (A .h) (A .rb) (P .0 .0) .0) (L .kept .1 .1 .1 .1 .0) (T .last .1 .0) (T .ensures) (λ b. c .slice-known24 .given b .fits) (L .ensures .0),
       L .ensures .1,
     )
 
