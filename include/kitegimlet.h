@@ -8,15 +8,15 @@
  * Images: a row is (w + 7) / 8 bytes, the highest bit being the leftmost pixel, 1 meaning filled; the unused low bits are its padding and
  * must be 0. A plane is h rows, row 0 first; a stack is n planes, layer 0 first, so n * h * ((w + 7) / 8) bytes.
  * Rings: n - 1 planes of w * h numbers of 16 bits; plane i belongs to the layers i and i + 1. Sizes w, h: 1 to 256; n: 1 to 512. Pitch (pixel
- * width): 10 to 1,000 micrometres; overhang: 0 to 10,000 micrometres. The help page docs/REFUSALS.md has every refusal number with what to do
- * about it.
+ * width): 10 to 1,000 micrometres; overhang, and the radius of posts: 0 to 10,000 micrometres. The help page docs/REFUSALS.md has every refusal
+ * number with what to do about it.
  */
 #ifndef KITEGIMLET_H
 #define KITEGIMLET_H
 
 #include <stdint.h>
 
-#define KG_VERSION "0.4"
+#define KG_VERSION "0.5"
 
 #ifdef __cplusplus
 extern "C" {
@@ -45,7 +45,7 @@ static inline unsigned kg_place_parts(kg_answer a)
     }
 }
 
-/* Of sizes that are in range: the bytes of a stack (part or support), and how many ring numbers there are. */
+/* Of sizes that are in range: the bytes of a stack (part, support or posts), and how many ring numbers there are. */
 static inline uint64_t kg_stack_bytes(uint64_t w, uint64_t h, uint64_t n) { return n * h * ((w + 7) / 8); }
 static inline uint64_t kg_ring_count(uint64_t w, uint64_t h, uint64_t n) { return (n - 1) * w * h; }
 
@@ -72,6 +72,20 @@ kg_answer kg_clean(uint64_t w, uint64_t h, uint64_t n, uint32_t pitch, uint32_t 
                    uint8_t *support, uint64_t support_len,
                    uint16_t *rings, uint64_t rings_len,
                    uint8_t *cleaned, uint64_t cleaned_len);
+
+/* Fills `posts` with support of single pixels, for resin machines. The top layer has none. Further down the posts of the layer above go down,
+ * except where they meet part. A pixel of the part above, over no part and not excused, is left by the overhang: it must be held by posts of
+ * the layer below it. The posts gone down take away, together, the left pixels that grow from them: by steps to neighbouring left pixels, all
+ * within `radius` of one of these posts. Of what remains the first pixel by row and then column becomes a post, and takes away itself and what
+ * grows from it alone, over remaining pixels within the radius; and so on until none remains. Within the radius is at a squared distance of at
+ * most radius * radius / (pitch * pitch) rounded down, as near is for an overhang.
+ * So each left pixel is a post or is joined to one, and each post above layer 0 stands on a post or on part. With radius 0 the posts are the
+ * support of kg_plan; with a larger one kg_check takes a pixel that the radius alone holds for one that hangs (11).
+ * Posts must have the part's length; what they held does not matter, and all of them is written. Refusals 1 to 3, 20 (a radius over 10,000, or
+ * radius / pitch over 32), 4, 5 (the length of posts), 7 with its place. */
+kg_answer kg_posts(uint64_t w, uint64_t h, uint64_t n, uint32_t pitch, uint32_t overhang, uint32_t radius,
+                   const uint8_t *part, uint64_t part_len,
+                   uint8_t *posts, uint64_t posts_len);
 
 /* Judges support that anyone made: 0 where it holds. Refusals 1 to 8, 7 and 8 with their places; then 9 (a support pixel inside the part),
  * then 10 (a ring number that is wrong), then 11 (a pixel of the part that hangs) or 19 (one of the support), whichever comes first, each
