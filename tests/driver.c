@@ -18,7 +18,7 @@
 #include <string.h>
 #include <time.h>
 
-enum { STANDARD_SECONDS = 60, FULL_SECONDS = 30, FULL_CASES = 40000, SHRINK_SECONDS = 10, PATIENCE = 20 };
+enum { STANDARD_SECONDS = 60, FULL_SECONDS = 30, FULL_CASES = 60000, SHRINK_SECONDS = 10, PATIENCE = 20 };
 enum { PRINTED_BYTES = 2048 };
 #define STANDARD_SEED 20260701u
 
@@ -50,6 +50,7 @@ static void print_trial(const struct trial *t)
         printf(" w %llu h %llu n %llu", (unsigned long long)t->w, (unsigned long long)t->h, (unsigned long long)t->n);
     if (!uses(t->call, JOB_FILE)) printf(" pitch %lu overhang %lu", (unsigned long)t->pitch, (unsigned long)t->overhang);
     if (t->call == CLEAN) printf(" gap %llu", (unsigned long long)t->gap);
+    if (t->call == POSTS) printf(" radius %lu", (unsigned long)t->radius);
     printf("\n");
     for (int which = 0; which < LENTS; which++)
         if (uses(t->call, which)) print_buffer(t, which);

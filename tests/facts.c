@@ -55,6 +55,111 @@ static const char *broken_cleaning(const struct trial *t, const struct outcome *
     return NULL;
 }
 
+/* ---- Posts ---- */
+
+enum { FLOODED = 1600 };
+
+/* One layer's posts, the pixels above it that the overhang leaves, and those of them that are joined to a post. */
+struct held {
+    uint8_t posts[FLOODED], left[FLOODED], joined[FLOODED];
+};
+
+/* Whether a pixel is within the radius of some post. */
+static int in_radius(const struct trial *t, const struct held *k, uint64_t at)
+{
+    uint64_t pitch = t->pitch, radius = t->radius;
+    for (uint64_t p = 0; p < t->w * t->h; p++) {
+        uint64_t dr = p / t->w - at / t->w, dc = p % t->w - at % t->w; /* squares are the same modulo 2^64 */
+        if (k->posts[p] && (dr * dr + dc * dc) * pitch * pitch <= radius * radius) return 1;
+    }
+    return 0;
+}
+
+/* Whether a pixel touches a post or a pixel that is joined to one. */
+static int touches_joined(const struct trial *t, const struct held *k, uint64_t at)
+{
+    uint64_t row = at / t->w, column = at % t->w;
+    for (uint64_t r = row > 0 ? row - 1 : 0; r <= row + 1 && r < t->h; r++)
+        for (uint64_t c = column > 0 ? column - 1 : 0; c <= column + 1 && c < t->w; c++)
+            if (k->posts[r * t->w + c] || k->joined[r * t->w + c]) return 1;
+    return 0;
+}
+
+static int is_layer_held(const struct trial *t, struct held *k)
+{
+    int more = 1;
+    while (more) {
+        more = 0;
+        for (uint64_t at = 0; at < t->w * t->h; at++)
+            if (k->left[at] && !k->posts[at] && !k->joined[at] && touches_joined(t, k, at) && in_radius(t, k, at))
+                k->joined[at] = 1, more = 1;
+    }
+    for (uint64_t at = 0; at < t->w * t->h; at++)
+        if (k->left[at] && !k->posts[at] && !k->joined[at]) return 0;
+    return 1;
+}
+
+/* Whether every pixel that the overhang leaves is a post below it or joined to one; rings are those of plan. */
+static int is_held(const struct trial *t, const uint8_t *posts, const uint8_t *ring_bytes)
+{
+    const uint8_t *part = t->lent[PART_STACK].bytes;
+    uint64_t plane = t->w * t->h;
+    for (uint64_t layer = 0; layer + 1 < t->n; layer++) {
+        struct held k;
+        memset(&k, 0, sizeof k);
+        for (uint64_t at = 0; at < plane; at++) {
+            uint64_t row = at / t->w, column = at % t->w, ring = layer * plane + at;
+            int excused = ring_bytes[2 * ring] != 0 || ring_bytes[2 * ring + 1] != 0;
+            k.posts[at] = (uint8_t)pixel(posts, t->w, t->h, layer, row, column);
+            k.left[at] = pixel(part, t->w, t->h, layer + 1, row, column) && !pixel(part, t->w, t->h, layer, row, column) && !excused;
+        }
+        if (!is_layer_held(t, &k)) return 0;
+    }
+    return 1;
+}
+
+/* Whether every post above layer 0 has a post or part below it. */
+static int is_standing(const struct trial *t, const uint8_t *posts)
+{
+    const uint8_t *part = t->lent[PART_STACK].bytes;
+    uint64_t plane = t->h * row_bytes_of(t->w);
+    for (uint64_t k = plane; k < t->n * plane; k++)
+        if (posts[k] & ~(posts[k - plane] | part[k - plane])) return 0;
+    return 1;
+}
+
+/* Asks the library for the plan of a trial's part. What it answers stays until the next call. */
+static void ask_plan(const struct trial *t, struct outcome *planned)
+{
+    struct trial other;
+    memset(&other, 0, sizeof other);
+    other.call = PLAN;
+    other.w = t->w;
+    other.h = t->h;
+    other.n = t->n;
+    other.pitch = t->pitch;
+    other.overhang = t->overhang;
+    buffer_put(&other, PART_STACK, t->lent[PART_STACK].bytes, stack_bytes_of(t));
+    buffer_make(&other, SUPPORT_STACK, stack_bytes_of(t));
+    buffer_make(&other, RING_PLANES, ring_count_of(t));
+    call_library(&other, planned);
+    trial_free(&other);
+}
+
+static const char *broken_posts(const struct trial *t, const struct outcome *right)
+{
+    const uint8_t *posts = right->after[POSTS_STACK];
+    uint64_t bytes = t->lent[POSTS_STACK].held;
+    struct outcome planned;
+    ask_plan(t, &planned);
+    if (!answers_0(&planned)) return "plan refuses a part that has posts";
+    if (!contains(planned.after[SUPPORT_STACK], posts, bytes)) return "a post is no planned support";
+    if (t->radius < t->pitch && !alike(planned.after[SUPPORT_STACK], posts, bytes)) return "posts within no radius are not the planned support";
+    if (!is_standing(t, posts)) return "a post stands neither on a post nor on part";
+    if (t->w * t->h > FLOODED) return NULL;
+    return is_held(t, posts, planned.after[RING_PLANES]) ? NULL : "a pixel that the overhang leaves is joined to no post";
+}
+
 /* ---- Refusals ---- */
 
 /* Whether check tells the same of the stacks in a file; no support stands for one of none. */
@@ -118,5 +223,6 @@ const char *broken_fact(const struct trial *t, const struct outcome *right)
 {
     if (t->call == PART || t->call == SUPPORT) return NULL;
     if (kg_number(right->answer) != 0) return broken_refusal(t, right->answer);
+    if (t->call == POSTS) return broken_posts(t, right);
     return t->call == CLEAN ? broken_cleaning(t, right) : NULL;
 }

@@ -32,6 +32,7 @@ struct face {
                       uint16_t *, uint64_t);
     kg_answer (*clean)(uint64_t, uint64_t, uint64_t, uint32_t, uint32_t, uint64_t, const uint8_t *, uint64_t, uint8_t *, uint64_t,
                        uint16_t *, uint64_t, uint8_t *, uint64_t);
+    kg_answer (*posts)(uint64_t, uint64_t, uint64_t, uint32_t, uint32_t, uint32_t, const uint8_t *, uint64_t, uint8_t *, uint64_t);
     kg_answer (*check)(uint64_t, uint64_t, uint64_t, uint32_t, uint32_t, const uint8_t *, uint64_t, const uint8_t *, uint64_t,
                        const uint16_t *, uint64_t);
     kg_answer (*read)(const uint8_t *, uint64_t, uint64_t *, uint64_t);
@@ -42,17 +43,19 @@ struct face {
                        const uint16_t *, uint64_t, uint8_t *, uint64_t);
 };
 
-static const struct face library_face = {kg_reach, kg_plan, kg_clean, kg_check, kg_read, kg_part, kg_support, kg_copy_rings, kg_write};
-static const struct face peer_face = {peer_reach, peer_plan,    peer_clean,      peer_check, peer_read,
-                                      peer_part,  peer_support, peer_copy_rings, peer_write};
+static const struct face library_face = {kg_reach, kg_plan, kg_clean,   kg_posts,      kg_check,
+                                         kg_read,  kg_part, kg_support, kg_copy_rings, kg_write};
+static const struct face peer_face = {peer_reach, peer_plan, peer_clean,   peer_posts,      peer_check,
+                                      peer_read,  peer_part, peer_support, peer_copy_rings, peer_write};
 
 static uint64_t call(const struct face *f, const struct trial *t, uint8_t *const at[LENTS])
 {
-    uint8_t *part = at[PART_STACK], *support = at[SUPPORT_STACK], *cleaned = at[CLEANED_STACK], *file = at[JOB_FILE], *out = at[OUT];
+    uint8_t *part = at[PART_STACK], *support = at[SUPPORT_STACK], *cleaned = at[CLEANED_STACK], *posts = at[POSTS_STACK];
+    uint8_t *file = at[JOB_FILE], *out = at[OUT];
     uint16_t *rings = (uint16_t *)(void *)at[RING_PLANES];
     uint64_t *told = (uint64_t *)(void *)at[TOLD];
     uint64_t part_len = t->lent[PART_STACK].len, support_len = t->lent[SUPPORT_STACK].len, rings_len = t->lent[RING_PLANES].len;
-    uint64_t cleaned_len = t->lent[CLEANED_STACK].len;
+    uint64_t cleaned_len = t->lent[CLEANED_STACK].len, posts_len = t->lent[POSTS_STACK].len;
     uint64_t file_len = t->lent[JOB_FILE].len, told_len = t->lent[TOLD].len, out_len = t->lent[OUT].len;
     switch (t->call) {
     case REACH: return f->reach(t->pitch, t->overhang);
@@ -60,6 +63,7 @@ static uint64_t call(const struct face *f, const struct trial *t, uint8_t *const
     case CLEAN:
         return f->clean(t->w, t->h, t->n, t->pitch, t->overhang, t->gap, part, part_len, support, support_len, rings, rings_len, cleaned,
                         cleaned_len);
+    case POSTS: return f->posts(t->w, t->h, t->n, t->pitch, t->overhang, t->radius, part, part_len, posts, posts_len);
     case CHECK: return f->check(t->w, t->h, t->n, t->pitch, t->overhang, part, part_len, support, support_len, rings, rings_len);
     case READ: return f->read(file, file_len, told, told_len);
     case PART: return f->part(file, file_len);

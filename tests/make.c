@@ -129,6 +129,10 @@ void write_by_peer(struct dice *d, struct trial *t, int stored)
 
 void lend_filled(struct dice *d, struct trial *t)
 {
+    if (t->call == POSTS) {
+        lend_scribbled(d, t, POSTS_STACK, stack_bytes_of(t));
+        return;
+    }
     lend_scribbled(d, t, SUPPORT_STACK, stack_bytes_of(t));
     lend_scribbled(d, t, RING_PLANES, ring_count_of(t));
     if (t->call == CLEAN) lend_scribbled(d, t, CLEANED_STACK, stack_bytes_of(t));
@@ -280,13 +284,13 @@ static void draw_at_edge(struct dice *d, struct trial *t)
         }
 }
 
-/* The number-th of all pairs of such sizes, planned, then judged, then cleaned; the reach goes through 0 to 32, and to 5 where there are many
- * pixels. */
+/* The number-th of all pairs of such sizes, planned, then judged, then cleaned, then held by posts; the reach goes through 0 to 32, and to 5 where
+ * there are many pixels. */
 static int edge_case(struct dice *d, struct trial *t, uint64_t *number)
 {
     static const unsigned edges[] = {1, 7, 8, 9, 63, 64, 65, 127, 128, 255, 256};
-    static const enum call calls[] = {PLAN, CHECK, CLEAN};
-    enum { EDGES = sizeof edges / sizeof *edges, ALL = 3 * EDGES * EDGES };
+    static const enum call calls[] = {PLAN, CHECK, CLEAN, POSTS};
+    enum { EDGES = sizeof edges / sizeof *edges, ALL = 4 * EDGES * EDGES };
     uint64_t k = *number;
     if (k >= ALL) {
         *number -= ALL;
@@ -295,11 +299,13 @@ static int edge_case(struct dice *d, struct trial *t, uint64_t *number)
     t->call = calls[k / (EDGES * EDGES)];
     t->w = edges[k % EDGES];
     t->h = edges[k / EDGES % EDGES];
-    t->n = 2;
+    t->n = t->call == POSTS ? 3 : 2;
     pick_settings_of(d, t, (uint32_t)(below(d, 33) % (t->w * t->h > 20000 ? 6 : 33)));
     buffer_make(t, PART_STACK, stack_bytes_of(t));
     t->gap = t->call == CLEAN ? some_gap(d) : 0;
+    t->radius = t->call == POSTS ? some_radius(d, t) : 0;
     if (t->call == CLEAN) draw_gaps(d, t);
+    else if (t->call == POSTS) draw_layers(d, t);
     else draw_at_edge(d, t);
     if (t->call == CHECK) plan_by_peer(t);
     else lend_filled(d, t);
@@ -336,17 +342,18 @@ static int disc_case(struct dice *d, struct trial *t, uint64_t *number)
 
 /* ---- A job of the largest size ---- */
 
-/* Part that grows by 8 columns from layer to layer, with a slit one row wide; for cleaning, half of what it grows by needs support. */
+/* Part that grows by 8 columns from layer to layer, with a slit one row wide; for cleaning and posts, half of what it grows by needs support. */
 static void make_largest(struct dice *d, struct trial *t, uint64_t which)
 {
-    static const enum call calls[LARGEST_CASES] = {WRITE, READ, COPY_RINGS, PLAN, CLEAN};
+    static const enum call calls[LARGEST_CASES] = {WRITE, READ, COPY_RINGS, PLAN, CLEAN, POSTS};
     t->call = calls[which];
     t->w = 256;
     t->h = 256;
     t->n = 512;
     t->pitch = 100;
-    t->overhang = t->call == CLEAN ? 400 : 3299;
+    t->overhang = t->call == CLEAN || t->call == POSTS ? 400 : 3299;
     t->gap = t->call == CLEAN ? 1 : 0;
+    t->radius = t->call == POSTS ? 250 : 0;
     buffer_make(t, PART_STACK, stack_bytes_of(t));
     for (uint64_t layer = 0; layer < t->n; layer++)
         for (uint64_t row = 100; row < 116; row += row == 107 ? 2 : 1)
@@ -366,8 +373,8 @@ static void make_largest(struct dice *d, struct trial *t, uint64_t which)
 
 static enum call some_call(struct dice *d)
 {
-    static const enum call calls[] = {REACH, PLAN, PLAN, PLAN, PLAN, CLEAN, CLEAN, CLEAN, CLEAN, CHECK, CHECK, CHECK, CHECK, CHECK, CHECK,
-                                      READ, READ, PART, SUPPORT, COPY_RINGS, COPY_RINGS, WRITE, WRITE, WRITE};
+    static const enum call calls[] = {REACH, PLAN, PLAN, PLAN, PLAN, CLEAN, CLEAN, CLEAN, CLEAN, POSTS, POSTS, POSTS, POSTS,
+                                      CHECK, CHECK, CHECK, CHECK, CHECK, CHECK, READ, READ, PART, SUPPORT, COPY_RINGS, COPY_RINGS, WRITE, WRITE, WRITE};
     return calls[below(d, sizeof calls / sizeof *calls)];
 }
 
@@ -380,6 +387,7 @@ static void make_random(struct dice *d, struct trial *t)
     case REACH: make_reach(d, t); break;
     case PLAN: make_plan(d, t); break;
     case CLEAN: make_clean(d, t); break;
+    case POSTS: make_posts(d, t); break;
     case CHECK: make_check(d, t); break;
     case READ: make_read(d, t); break;
     case COPY_RINGS: make_copy_rings(d, t); break;
@@ -405,5 +413,6 @@ void make_trial(struct trial *t, uint64_t seed, uint64_t number)
     if (padding_case(&d, t, &number) || small_plan(t, &number) || small_check(t, &number) || small_column(t, &number)) return;
     if (edge_case(&d, t, &number) || disc_case(&d, t, &number)) return;
     if (small_clean(&d, t, &number) || hole_case(&d, t, &number)) return;
+    if (small_posts(&d, t, &number) || table_case(&d, t, &number) || tower_case(&d, t, &number)) return;
     make_random(&d, t);
 }

@@ -1,7 +1,7 @@
 /* Makes trials with padding set: every first row of small stacks, and the last rows of large ones, of part, of support and of both. */
 #include "make.h"
 
-static const enum call calls[] = {PLAN, CLEAN, CHECK, READ, PART, SUPPORT, COPY_RINGS, WRITE};
+static const enum call calls[] = {PLAN, CLEAN, POSTS, CHECK, READ, PART, SUPPORT, COPY_RINGS, WRITE};
 
 enum { ASKED = sizeof calls / sizeof *calls };
 
@@ -47,7 +47,7 @@ static void lend_bad(struct dice *d, struct trial *t, struct bad b)
     int stored = b.support < b.rows || chance(d, 2);
     uint8_t *part, *support;
     write_by_peer(d, t, stored);
-    if (t->call == PLAN || t->call == CLEAN) lend_filled(d, t);
+    if (t->call == PLAN || t->call == CLEAN || t->call == POSTS) lend_filled(d, t);
     if (t->call == CHECK && !stored) plan_by_peer(t);
     part = uses(t->call, JOB_FILE) ? t->lent[JOB_FILE].bytes + 18 : t->lent[PART_STACK].bytes;
     support = uses(t->call, JOB_FILE) ? t->lent[JOB_FILE].bytes + 22 + stack_bytes_of(t) : t->lent[SUPPORT_STACK].bytes;
@@ -78,6 +78,7 @@ static int small_padding(struct dice *d, struct trial *t, uint64_t *number)
             t->w = wide[below(d, sizeof wide / sizeof *wide)];
             t->gap = t->call == CLEAN ? some_gap(d) : 0;
             pick_settings(d, t);
+            if (t->call == POSTS) t->radius = some_radius(d, t);
             draw_lent(d, t);
             lend_bad(d, t, b);
             return 1;

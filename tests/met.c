@@ -2,18 +2,21 @@
  * tried. */
 #include "met.h"
 
+#include "peer.h"
+
 #include <stdio.h>
 #include <string.h>
 
-enum { NUMBERS = 20, LOOKED_AT = 1000000, CLOSED_AT = 40 };
+enum { NUMBERS = 21, LOOKED_AT = 1000000, CLOSED_AT = 40, PLANNED_AT = 4096 };
 
 unsigned long compared[CALLS];
 
 static unsigned long met[CALLS][NUMBERS];
 
 /* The refusal numbers that each call can give, 0 for acceptance; 15 cannot be reached. */
-static const char *const can_give[CALLS] = {"0 2 3 ", "0 1 2 3 4 5 6 7 ", "0 1 2 3 4 5 6 7 18 ", "0 1 2 3 4 5 6 7 8 9 10 11 19 ",
-                                            "0 1 2 3 7 8 12 13 14 ", "", "", "0 1 2 3 6 7 8 12 13 14 ", "0 1 2 3 4 5 6 7 8 16 "};
+static const char *const can_give[CALLS] = {"0 2 3 ", "0 1 2 3 4 5 6 7 ", "0 1 2 3 4 5 6 7 18 ", "0 1 2 3 4 5 7 20 ",
+                                            "0 1 2 3 4 5 6 7 8 9 10 11 19 ", "0 1 2 3 7 8 12 13 14 ", "", "",
+                                            "0 1 2 3 6 7 8 12 13 14 ", "0 1 2 3 4 5 6 7 8 16 "};
 
 enum kind {
     REACH_0, REACH_MIDDLE, REACH_32,
@@ -22,6 +25,9 @@ enum kind {
     CLEAN_GAP_0, CLEAN_GAP_1, CLEAN_GAP_2, CLEAN_GAP_10, CLEAN_GAP_31, CLEAN_GAP_32, CLEAN_GAP_33, CLEAN_GAP_HUGE, CLEAN_LENGTH,
     CLEAN_ONE_LAYER, CLEAN_CLOSED, CLEAN_AT_BORDER, CLEAN_NOTHING, CLEAN_WITHOUT_PART, CLEAN_WITHOUT_EXCUSED, CLEAN_CARRIED, CLEAN_STOPPED,
     CLEAN_EMPTY, CLEAN_ALONE, CLEAN_WIDEST, CLEAN_HIGHEST, CLEAN_LAYERS,
+    POSTS_RADIUS_0, POSTS_REACH_0, POSTS_REACH_1, POSTS_REACH_2, POSTS_REACH_10, POSTS_REACH_31, POSTS_REACH_32, POSTS_LONGEST, POSTS_BETWEEN,
+    POSTS_BOUND_1088, POSTS_OVER, POSTS_REACH_33, POSTS_HUGE, POSTS_ONE_LAYER, POSTS_NOTHING, POSTS_NEW, POSTS_HELD, POSTS_DOWN, POSTS_STOPPED,
+    POSTS_ABOVE_ALONE, POSTS_ABOVE_AND_NEW, POSTS_IDLE, POSTS_WIDEST, POSTS_HIGHEST, POSTS_LAYERS,
     CHECK_AS_PLANNED, CHECK_MORE, CHECK_LARGER, CHECK_FEWER, CHECK_ONE_LAYER,
     BAD_NO_SHADOW, BAD_NOT_NEAR, BAD_NO_NEIGHBOUR,
     PART_THEN_SUPPORT, PART_LAYERS_SUPPORT, SUPPORT_THEN_PART, SUPPORT_LAYERS_PART,
@@ -46,6 +52,13 @@ static const char *const kind_names[KINDS] = {
     "clean: closed above and carried down", "clean: closed above and stopped by part",
     "clean: a layer without support under one with some", "clean: a layer with cleaned support alone",
     "clean: width 256 with a gap closed", "clean: height 256 with a gap closed", "clean: 512 layers with a gap closed",
+    "posts: radius 0", "posts: reach 0", "posts: reach 1", "posts: reach 2", "posts: reach 10", "posts: reach 31", "posts: reach 32",
+    "posts: radius 10,000", "posts: posts that whole pixels of radius would not give", "posts: pixels held with the bound 1,088",
+    "posts: radius 10,001 refused", "posts: reach 33 just so refused", "posts: radius 2^32 - 1 refused",
+    "posts: one layer", "posts: none", "posts: a new post", "posts: a pixel held that is no post", "posts: a post gone down",
+    "posts: a post stopped by part", "posts: pixels of a layer held by posts gone down alone", "posts: a layer with posts gone down and new ones",
+    "posts: a post gone down under which nothing is left",
+    "posts: width 256 with a new post", "posts: height 256 with a new post", "posts: 512 layers with a new post",
     "check: accepted as planned", "check: accepted with more support", "check: accepted with larger rings",
     "check: accepted with support for a ring", "check: accepted with one layer",
     "check: bad ring outside the shadow", "check: bad ring not near", "check: bad ring without a neighbour before it",
@@ -236,6 +249,89 @@ static void note_clean(const struct trial *t, const struct outcome *o)
     if (number == 0) note_cleaned(t, o);
 }
 
+/* ---- Kinds of posts ---- */
+
+struct held {
+    int new, down, stopped, held, above_alone, above_and_new, idle;
+};
+
+/* One layer, with the rings of its plan or without: how many pixels are left, are held though they are no posts, and are posts. */
+static void look_at_held(const struct trial *t, const struct outcome *o, const uint16_t *rings, uint64_t plane, struct held *p)
+{
+    unsigned long left = 0, held = 0, new = 0, down = 0;
+    for (uint64_t row = 0; row < t->h; row++)
+        for (uint64_t column = 0; column < t->w; column++) {
+            int here = pixel(o->after[POSTS_STACK], t->w, t->h, plane, row, column);
+            int above = pixel(o->after[POSTS_STACK], t->w, t->h, plane + 1, row, column);
+            int is_left = rings != NULL && shadow_at(t, plane, row, column) && rings[(plane * t->h + row) * t->w + column] == 0;
+            left += is_left;
+            held += is_left && !here;
+            new += here && !above;
+            down += here && above;
+            p->stopped |= above && !here;
+        }
+    p->new |= new > 0;
+    p->down |= down > 0;
+    p->held |= held > 0;
+    p->above_alone |= held > 0 && new == 0;
+    p->above_and_new |= down > 0 && new > 0;
+    p->idle |= rings != NULL && down > 0 && left == 0;
+}
+
+/* Whether whole pixels of radius would give other posts. */
+static int is_between(const struct trial *t, const struct outcome *o)
+{
+    static uint8_t posts[PLANNED_AT];
+    uint64_t bytes = stack_bytes_of(t);
+    peer_posts(t->w, t->h, t->n, t->pitch, t->overhang, t->radius - t->radius % t->pitch, t->lent[PART_STACK].bytes, bytes, posts, bytes);
+    return memcmp(posts, o->after[POSTS_STACK], bytes) != 0;
+}
+
+static void note_held(const struct trial *t, const struct outcome *o)
+{
+    static uint8_t support[PLANNED_AT];
+    static uint16_t rings[PLANNED_AT];
+    struct held p;
+    int small = t->w * t->h * t->n <= PLANNED_AT;
+    uint64_t bytes = stack_bytes_of(t);
+    if (small) peer_plan(t->w, t->h, t->n, t->pitch, t->overhang, t->lent[PART_STACK].bytes, bytes, support, bytes, rings, ring_count_of(t));
+    memset(&p, 0, sizeof p);
+    for (uint64_t plane = 0; plane + 1 < t->n; plane++) look_at_held(t, o, small ? rings : NULL, plane, &p);
+    meet(POSTS_BETWEEN, small && t->radius % t->pitch != 0 && is_between(t, o));
+    meet(POSTS_BOUND_1088, t->radius * t->radius / (t->pitch * t->pitch) == 1088 && p.held);
+    meet(POSTS_ONE_LAYER, t->n == 1);
+    meet(POSTS_NOTHING, t->n > 1 && !p.new);
+    meet(POSTS_NEW, p.new);
+    meet(POSTS_HELD, p.held);
+    meet(POSTS_DOWN, p.down);
+    meet(POSTS_STOPPED, p.stopped);
+    meet(POSTS_ABOVE_ALONE, p.above_alone);
+    meet(POSTS_ABOVE_AND_NEW, p.above_and_new);
+    meet(POSTS_IDLE, p.idle);
+    meet(POSTS_WIDEST, t->w == 256 && p.new);
+    meet(POSTS_HIGHEST, t->h == 256 && p.new);
+    meet(POSTS_LAYERS, t->n == 512 && p.new);
+}
+
+static void note_radius(const struct trial *t)
+{
+    static const unsigned reaches[] = {0, 1, 2, 10, 31, 32};
+    meet(POSTS_RADIUS_0, t->radius == 0);
+    meet(POSTS_LONGEST, t->radius == 10000);
+    for (int k = 0; k < 6; k++) meet((enum kind)(POSTS_REACH_0 + k), t->radius > 0 && t->radius / t->pitch == reaches[k]);
+}
+
+static void note_posts(const struct trial *t, const struct outcome *o)
+{
+    unsigned number = kg_number(o->answer);
+    meet(POSTS_OVER, number == 20 && t->radius == 10001);
+    meet(POSTS_REACH_33, number == 20 && t->radius == 33 * t->pitch);
+    meet(POSTS_HUGE, number == 20 && t->radius == 0xFFFFFFFFu);
+    if (number != 0) return;
+    note_radius(t);
+    if (t->w * t->h * t->n <= LOOKED_AT) note_held(t, o);
+}
+
 /* ---- Rows with padding ---- */
 
 enum row_kind {
@@ -370,6 +466,7 @@ void note(const struct trial *t, const struct outcome *o)
     met[t->call][number]++;
     if (number == 7 || number == 8) note_row(t, o->answer);
     if (t->call == CLEAN) note_clean(t, o);
+    if (t->call == POSTS) note_posts(t, o);
     if (t->call == CHECK) note_check(t, o->answer);
     if (number != 0) return;
     if (t->call == REACH) note_reach(o->answer);

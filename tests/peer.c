@@ -1,5 +1,5 @@
 /* The peer's calls: a pixel at a time, near by trying every pixel of the square around, rings by breadth-first search, closing by the nearest
- * pixel of each row around. */
+ * pixel of each row around, posts by a search from each of them. */
 #include "peer.h"
 
 #include <inttypes.h>
@@ -334,6 +334,119 @@ kg_answer peer_clean(uint64_t w, uint64_t h, uint64_t n, uint32_t pitch, uint32_
     if (padding != 0) return padding;
     plan(s, pitch, overhang, part, support, rings);
     clean(s, gap, part, support, rings, cleaned);
+    return value(0);
+}
+
+/* ---- Posts ---- */
+
+/* One layer's work: which of its pixels were left by the overhang and remain, row by row, and room for a search. */
+struct scan {
+    struct size s;
+    int64_t pitch, radius;
+    uint8_t *remains;
+    uint64_t *queue;
+};
+
+/* Whether a pixel is within the radius of one of the posts; nothing is divided, as for an overhang. */
+static int within_radius(const struct scan *c, const uint64_t *posts, uint64_t count, uint64_t row, uint64_t column)
+{
+    for (uint64_t k = 0; k < count; k++) {
+        int64_t dr = (int64_t)(posts[k] / c->s.w) - (int64_t)row, dc = (int64_t)(posts[k] % c->s.w) - (int64_t)column;
+        if ((dr * dr + dc * dc) * c->pitch * c->pitch <= c->radius * c->radius) return 1;
+    }
+    return 0;
+}
+
+/* The posts take away their own pixels, and by breadth-first search from all of them each remaining pixel that is met and is within the
+ * radius of one. */
+static void take_away(const struct scan *c, const uint64_t *posts, uint64_t count)
+{
+    uint64_t head = 0, tail = 0;
+    for (uint64_t k = 0; k < count; k++) {
+        c->remains[posts[k]] = 0;
+        c->queue[tail++] = posts[k];
+    }
+    while (head < tail) {
+        uint64_t from = c->queue[head++];
+        for (int k = 0; k < 8; k++) {
+            uint64_t row, column;
+            if (!neighbour(c->s, from / c->s.w, from % c->s.w, k, &row, &column)) continue;
+            if (!c->remains[row * c->s.w + column]) continue;
+            if (!within_radius(c, posts, count, row, column)) continue;
+            c->remains[row * c->s.w + column] = 0;
+            c->queue[tail++] = row * c->s.w + column;
+        }
+    }
+}
+
+/* Marks what the overhang leaves: shadow pixels that are not excused. */
+static void find_left(struct pair p, uint8_t *left)
+{
+    uint16_t *plane = room_for(p.s.w * p.s.h, sizeof *plane);
+    grow_rings(p, plane);
+    for (uint64_t row = 0; row < p.s.h; row++)
+        for (uint64_t column = 0; column < p.s.w; column++)
+            left[row * p.s.w + column] = in_shadow(p, row, column) && plane[row * p.s.w + column] == 0;
+    free(plane);
+}
+
+/* Posts of the layer above go down except where they meet part. Answers how many, and lists them. */
+static uint64_t go_down(struct pair p, uint8_t *posts, uint64_t *down)
+{
+    uint64_t count = 0;
+    for (uint64_t row = 0; row < p.s.h; row++)
+        for (uint64_t column = 0; column < p.s.w; column++) {
+            if (!filled(posts, p.s, p.below + 1, row, column) || filled(p.part, p.s, p.below, row, column)) continue;
+            fill(posts, p.s, p.below, row, column);
+            down[count++] = row * p.s.w + column;
+        }
+    return count;
+}
+
+/* The posts of a layer: those gone down, which take away together, and new ones, each of which takes away by itself. */
+static void place_posts(struct pair p, uint32_t radius, uint8_t *posts)
+{
+    uint64_t *down = room_for(p.s.w * p.s.h, sizeof *down);
+    struct scan c;
+    c.s = p.s;
+    c.pitch = p.pitch;
+    c.radius = radius;
+    c.remains = room_for(p.s.w * p.s.h, sizeof *c.remains);
+    c.queue = room_for(p.s.w * p.s.h, sizeof *c.queue);
+    find_left(p, c.remains);
+    take_away(&c, down, go_down(p, posts, down));
+    for (uint64_t at = 0; at < p.s.w * p.s.h; at++) {
+        if (!c.remains[at]) continue;
+        fill(posts, p.s, p.below, at / p.s.w, at % p.s.w);
+        take_away(&c, &at, 1);
+    }
+    free(c.queue);
+    free(c.remains);
+    free(down);
+}
+
+kg_answer peer_posts(uint64_t w, uint64_t h, uint64_t n, uint32_t pitch, uint32_t overhang, uint32_t radius,
+                     const uint8_t *part, uint64_t part_len,
+                     uint8_t *posts, uint64_t posts_len)
+{
+    struct size s = make_size(w, h, n);
+    unsigned number = size_or_setting_refusal(s, pitch, overhang);
+    if (number != 0) return refused(number);
+    if (radius > 10000 || radius / pitch > 32) return refused(20);
+    if (part_len != stack_bytes(s)) return refused(4);
+    if (posts_len != stack_bytes(s)) return refused(5);
+    kg_answer padding = find_padding(7, part, s);
+    if (padding != 0) return padding;
+    for (uint64_t k = 0; k < stack_bytes(s); k++) posts[k] = 0;
+    for (uint64_t above = s.n - 1; above > 0; above--) {
+        struct pair p;
+        p.s = s;
+        p.part = part;
+        p.below = above - 1;
+        p.pitch = pitch;
+        p.overhang = overhang;
+        place_posts(p, radius, posts);
+    }
     return value(0);
 }
 

@@ -20,6 +20,10 @@ kg_answer peer_clean(uint64_t w, uint64_t h, uint64_t n, uint32_t pitch, uint32_
                      uint16_t *rings, uint64_t rings_len,
                      uint8_t *cleaned, uint64_t cleaned_len);
 
+kg_answer peer_posts(uint64_t w, uint64_t h, uint64_t n, uint32_t pitch, uint32_t overhang, uint32_t radius,
+                     const uint8_t *part, uint64_t part_len,
+                     uint8_t *posts, uint64_t posts_len);
+
 kg_answer peer_check(uint64_t w, uint64_t h, uint64_t n, uint32_t pitch, uint32_t overhang,
                      const uint8_t *part, uint64_t part_len,
                      const uint8_t *support, uint64_t support_len,

@@ -89,6 +89,36 @@ static const struct clean_piece clean_pieces[] = {
     {"a corner beside the disc of 1", 2, 2, 2, 0, 1, {0x00, 0x00, 0x80, 0x40}, {0x80, 0x40}, {0}, {0xC0, 0xC0}},
 };
 
+/* Posts: part, and its posts with pitch 100. */
+struct posts_piece {
+    const char *name;
+    uint64_t w, h, n;
+    uint32_t overhang, radius;
+    uint8_t part[MOST], posts[MOST];
+};
+
+static const struct posts_piece posts_pieces[] = {
+    {"one layer", 8, 1, 1, 200, 200, {0xFF}, {0}},
+    {"b, radius 0", 8, 1, 2, 200, 0, {0xE0, 0xFF}, {0x07}},
+    {"b, radius 99", 8, 1, 2, 200, 99, {0xE0, 0xFF}, {0x07}},
+    {"b, radius 100", 8, 1, 2, 200, 100, {0xE0, 0xFF}, {0x05}},
+    {"b, radius 200", 8, 1, 2, 200, 200, {0xE0, 0xFF}, {0x04}},
+    {"c, radius 100", 8, 1, 2, 200, 100, {0xE0, 0x1F}, {0x15}},
+    {"f, near a post from above but not joined", 8, 1, 3, 200, 300, {0x00, 0xE0, 0xFF}, {0x84, 0x04}},
+    {"a post from above meets part", 8, 1, 3, 200, 200, {0x04, 0xE0, 0xFF}, {0x80, 0x04}},
+    {"a post from above holds what touches it", 8, 1, 3, 0, 200, {0x00, 0x30, 0x40}, {0x40, 0x40}},
+    {"a post from above holds a part of what is left", 8, 1, 3, 0, 100, {0x00, 0x3C, 0x40}, {0x54, 0x40}},
+    {"a post from above that holds nothing", 8, 1, 3, 0, 200, {0x00, 0x00, 0x80}, {0x80, 0x80}},
+    {"posts from above grow together", 8, 1, 3, 0, 200, {0x00, 0x70, 0x84}, {0x84, 0x84}},
+    {"new posts grow each by itself", 4, 3, 2, 0, 224, {0, 0, 0, 0xE0, 0x10, 0xE0}, {0x80, 0x10, 0x80}},
+    {"not through pixels that are taken away", 4, 3, 2, 0, 200, {0, 0, 0, 0x20, 0x20, 0x70}, {0x20, 0x00, 0x50}},
+    {"not through excused pixels", 8, 2, 2, 150, 1000, {0x10, 0x00, 0x10, 0xFF}, {0x00, 0x84}},
+    {"rows before columns", 2, 2, 2, 0, 150, {0, 0, 0x40, 0x80}, {0x40, 0x00}},
+    {"a corner, radius 141", 2, 2, 2, 0, 141, {0, 0, 0x80, 0x40}, {0x80, 0x40}},
+    {"a corner, radius 142", 2, 2, 2, 0, 142, {0, 0, 0x80, 0x40}, {0x80, 0x00}},
+    {"a table of 5 by 5, radius 200", 5, 5, 2, 0, 200, {0, 0, 0, 0, 0, 0xF8, 0xF8, 0xF8, 0xF8, 0xF8}, {0x90, 0x00, 0x48, 0x00, 0xA0}},
+};
+
 /* Stacks with padding set, and the refusal of the calls that look at both. */
 struct padded {
     const char *name;
@@ -227,6 +257,29 @@ static void try_clean_piece(const struct clean_piece *p, side *of, const char *w
     trial_free(&t);
 }
 
+static void try_posts_piece(const struct posts_piece *p, side *of, const char *who)
+{
+    struct trial t;
+    struct outcome o;
+    char what[80];
+    memset(&t, 0, sizeof t);
+    t.call = POSTS;
+    t.w = p->w;
+    t.h = p->h;
+    t.n = p->n;
+    t.pitch = 100;
+    t.overhang = p->overhang;
+    t.radius = p->radius;
+    buffer_put(&t, PART_STACK, p->part, stack_bytes_of(&t));
+    buffer_make(&t, POSTS_STACK, stack_bytes_of(&t));
+    memset(t.lent[POSTS_STACK].bytes, 0xFF, t.lent[POSTS_STACK].held);
+    ask(of, &t, &o);
+    snprintf(what, sizeof what, "posts, %s", p->name);
+    expect(o.signal == 0 && o.answer == 0 && holds(&t, &o, POSTS_STACK, p->posts), who, what);
+    free_outcome_of(of, &o);
+    trial_free(&t);
+}
+
 /* A refusal at a row. */
 static uint64_t at_row(unsigned number, unsigned layer, unsigned row) { return number | (uint64_t)layer << 16 | (uint64_t)row << 32; }
 
@@ -262,20 +315,22 @@ static void lend_padded(struct trial *t, const struct padded *p, enum call call)
     buffer_put(t, SUPPORT_STACK, p->support, stack_bytes_of(t));
     buffer_make(t, RING_PLANES, ring_count_of(t));
     buffer_make(t, CLEANED_STACK, stack_bytes_of(t));
+    buffer_make(t, POSTS_STACK, stack_bytes_of(t));
     buffer_put(t, JOB_FILE, file, put_job(t, p, file));
     buffer_make(t, TOLD, KG_TOLD);
     buffer_make(t, OUT, job_bytes_of(t, 1));
 }
 
-/* Asks every call that is lent such stacks or their job. Planning and cleaning do not look at support; part and support give no number. */
+/* Asks every call that is lent such stacks or their job. Planning, cleaning and posts do not look at support; part and support give no
+ * number. */
 static void try_padded(const struct padded *p, side *of, const char *who)
 {
-    static const enum call calls[] = {PLAN, CLEAN, CHECK, READ, PART, SUPPORT, COPY_RINGS, WRITE};
+    static const enum call calls[] = {PLAN, CLEAN, POSTS, CHECK, READ, PART, SUPPORT, COPY_RINGS, WRITE};
     for (size_t k = 0; k < sizeof calls / sizeof *calls; k++) {
         struct trial t;
         struct outcome o;
         char what[120];
-        int planned = calls[k] == PLAN || calls[k] == CLEAN, handed = calls[k] == PART || calls[k] == SUPPORT;
+        int planned = calls[k] == PLAN || calls[k] == CLEAN || calls[k] == POSTS, handed = calls[k] == PART || calls[k] == SUPPORT;
         uint64_t answer = handed || (planned && p->number == 8) ? 0 : at_row(p->number, p->layer, p->row);
         lend_padded(&t, p, calls[k]);
         ask(of, &t, &o);
@@ -428,6 +483,79 @@ static void try_cleanings(side *of, const char *who)
     try_cleaning(200, 32, right, 0x01, at_row(7, 1, 0), of, who);
 }
 
+/* A full layer of 33 rows of 9 over nothing: the post at its first pixel takes all away, or all but the last, at the squared distance 1,088. */
+static void try_post_bound(uint32_t pitch, uint32_t radius, int last, side *of, const char *who)
+{
+    enum { W = 9, H = 33 };
+    struct trial t;
+    struct outcome o;
+    uint8_t posts[2 * H * 2] = {0x80};
+    char what[64];
+    memset(&t, 0, sizeof t);
+    t.call = POSTS;
+    t.w = W;
+    t.h = H;
+    t.n = 2;
+    t.pitch = pitch;
+    t.radius = radius;
+    buffer_make(&t, PART_STACK, sizeof posts);
+    buffer_make(&t, POSTS_STACK, sizeof posts);
+    for (size_t row = 0; row < H; row++) memcpy(t.lent[PART_STACK].bytes + 2 * (H + row), "\xFF\x80", 2);
+    if (!last) posts[2 * H - 1] = 0x80;
+    ask(of, &t, &o);
+    snprintf(what, sizeof what, "posts by p %u, radius %u", (unsigned)pitch, (unsigned)radius);
+    expect(o.signal == 0 && o.answer == 0 && holds(&t, &o, POSTS_STACK, posts), who, what);
+    free_outcome_of(of, &o);
+    trial_free(&t);
+}
+
+/* Posts of two layers of one row of seven pixels, part and posts so much longer, are made or refused. */
+static void try_posting(uint32_t pitch, uint32_t overhang, uint32_t radius, unsigned part_longer, unsigned posts_longer, uint8_t part,
+                        uint64_t answer, side *of, const char *who)
+{
+    struct trial t;
+    struct outcome o;
+    char what[80];
+    memset(&t, 0, sizeof t);
+    t.call = POSTS;
+    t.w = 7;
+    t.h = 1;
+    t.n = 2;
+    t.pitch = pitch;
+    t.overhang = overhang;
+    t.radius = radius;
+    buffer_make(&t, PART_STACK, stack_bytes_of(&t) + part_longer);
+    buffer_make(&t, POSTS_STACK, stack_bytes_of(&t) + posts_longer);
+    t.lent[PART_STACK].bytes[1] = part;
+    ask(of, &t, &o);
+    snprintf(what, sizeof what, "posts with p %u, radius %u and refusal %u", (unsigned)pitch, (unsigned)radius, kg_number(answer));
+    expect(o.signal == 0 && o.answer == answer, who, what);
+    free_outcome_of(of, &o);
+    trial_free(&t);
+}
+
+static void try_postings(side *of, const char *who)
+{
+    try_post_bound(66, 2177, 1, of, who);
+    try_post_bound(66, 2176, 0, of, who);
+    try_post_bound(303, 9998, 1, of, who);
+    try_post_bound(65, 2144, 0, of, who);
+    try_posting(100, 200, 3299, 0, 0, 0x02, 0, of, who);
+    try_posting(100, 200, 3300, 0, 0, 0x02, 20, of, who);
+    try_posting(10, 200, 329, 0, 0, 0x02, 0, of, who);
+    try_posting(10, 200, 330, 0, 0, 0x02, 20, of, who);
+    try_posting(1000, 200, 10000, 0, 0, 0x02, 0, of, who);
+    try_posting(1000, 200, 10001, 0, 0, 0x02, 20, of, who);
+    try_posting(1000, 200, 65536, 0, 0, 0x02, 20, of, who);
+    try_posting(1000, 200, 0xFFFFFFFFu, 0, 0, 0x02, 20, of, who);
+    try_posting(9, 200, 3300, 1, 1, 0x01, 2, of, who);
+    try_posting(100, 3300, 3300, 1, 1, 0x01, 3, of, who);
+    try_posting(100, 200, 3300, 1, 1, 0x01, 20, of, who);
+    try_posting(100, 200, 200, 1, 1, 0x01, 4, of, who);
+    try_posting(100, 200, 200, 0, 1, 0x01, 5, of, who);
+    try_posting(100, 200, 200, 0, 0, 0x01, at_row(7, 1, 0), of, who);
+}
+
 /* ---- The example file ---- */
 
 static void try_reading(side *of, const char *who)
@@ -546,11 +674,13 @@ int try_pieces(void)
     for (int k = 0; k < 2; k++) {
         for (size_t j = 0; j < sizeof pieces / sizeof *pieces; j++) try_piece(&pieces[j], sides[k], names[k]);
         for (size_t j = 0; j < sizeof clean_pieces / sizeof *clean_pieces; j++) try_clean_piece(&clean_pieces[j], sides[k], names[k]);
+        for (size_t j = 0; j < sizeof posts_pieces / sizeof *posts_pieces; j++) try_posts_piece(&posts_pieces[j], sides[k], names[k]);
         for (size_t j = 0; j < sizeof padded / sizeof *padded; j++) try_padded(&padded[j], sides[k], names[k]);
         try_reaches(sides[k], names[k]);
         try_bounds(sides[k], names[k]);
         try_sizes(sides[k], names[k]);
         try_cleanings(sides[k], names[k]);
+        try_postings(sides[k], names[k]);
         try_reading(sides[k], names[k]);
         try_damages(sides[k], names[k]);
         try_writing(sides[k], names[k]);

@@ -1,6 +1,6 @@
-/* A record, all numbers little-endian and 8 bytes wide: case, call, place, skew, null_for_empty, w, h, n, pitch, overhang, gap, answer; then
- * for each buffer that the call uses, in the order of enum lent: elements, bytes held, whether they change, the bytes before, and the bytes
- * after where they change.
+/* A record, all numbers little-endian and 8 bytes wide: case, call, place, skew, null_for_empty, w, h, n, pitch, overhang, gap, radius,
+ * answer; then for each buffer that the call uses, in the order of enum lent: elements, bytes held, whether they change, the bytes before,
+ * and the bytes after where they change.
  */
 #include "record.h"
 
@@ -35,7 +35,7 @@ static void put_buffer(FILE *to, const struct buffer *b, const uint8_t *after)
 void record(FILE *to, uint64_t number, const struct trial *t, const struct outcome *right)
 {
     uint64_t head[] = {number, t->call, t->place, t->skew, (uint64_t)t->null_for_empty, t->w, t->h, t->n, t->pitch, t->overhang,
-                       t->gap, right->answer};
+                       t->gap, t->radius, right->answer};
     for (size_t k = 0; k < sizeof head / sizeof *head; k++) put_number(to, head[k]);
     for (int which = 0; which < LENTS; which++)
         if (uses(t->call, which)) put_buffer(to, &t->lent[which], right->after[which]);

@@ -20,6 +20,13 @@ kg_answer kg_clean(uint64_t w, uint64_t h, uint64_t n, uint32_t pitch, uint32_t 
     return peer_clean(w, h, n, pitch, overhang, gap, part, part_len, support, support_len, rings, rings_len, cleaned, cleaned_len);
 }
 
+kg_answer kg_posts(uint64_t w, uint64_t h, uint64_t n, uint32_t pitch, uint32_t overhang, uint32_t radius,
+                   const uint8_t *part, uint64_t part_len,
+                   uint8_t *posts, uint64_t posts_len)
+{
+    return peer_posts(w, h, n, pitch, overhang, radius, part, part_len, posts, posts_len);
+}
+
 kg_answer kg_check(uint64_t w, uint64_t h, uint64_t n, uint32_t pitch, uint32_t overhang,
                    const uint8_t *part, uint64_t part_len,
                    const uint8_t *support, uint64_t support_len,

@@ -110,6 +110,7 @@ static void cut_stacks(struct trial *small, const struct trial *t, struct cut c)
     cut_stack(small, t, c, PART_STACK);
     cut_stack(small, t, c, SUPPORT_STACK);
     cut_stack(small, t, c, CLEANED_STACK);
+    cut_stack(small, t, c, POSTS_STACK);
     cut_rings(small, t, c);
     if (t->call == WRITE) cut_buffer(small, t, OUT, job_bytes_of(t, stored), job_bytes_of(small, stored), NULL);
 }
@@ -296,6 +297,19 @@ static int plain_gap(struct trial *t)
     return 0;
 }
 
+/* The least radius that still fails, of halves of a pixel where the pitch is plain. */
+static int plain_radius(struct trial *t)
+{
+    uint32_t step = t->pitch == 100 ? 50 : 1;
+    for (uint32_t radius = 0; radius < t->radius && radius <= 80 * step; radius += step) {
+        struct trial small;
+        trial_copy(&small, t);
+        small.radius = radius;
+        if (keep(t, &small)) return 1;
+    }
+    return 0;
+}
+
 /* Sizes that are out of range anyway, or stand beside such a one. */
 static int plain_sizes(struct trial *t)
 {
@@ -401,6 +415,7 @@ void shrink(struct trial *t, double seconds)
         better = leave_out_sides(t);
         better |= plain_settings(t);
         better |= plain_gap(t);
+        better |= plain_radius(t);
         better |= plain_sizes(t);
         better |= cut_lengths(t);
         better |= clear_contents(t);

@@ -106,6 +106,19 @@ static uint64_t hostile_gap(struct dice *d, uint64_t was)
     }
 }
 
+/* A radius over the limit, or one whose reach is: 33 pixels just so, or more. */
+static uint32_t hostile_radius(struct dice *d, const struct trial *t)
+{
+    if (t->pitch < 10 || t->pitch > 303 || chance(d, 2)) return hostile_overhang(d, t->radius);
+    return chance(d, 2) ? 33 * t->pitch : (uint32_t)between(d, 33 * t->pitch, 10000);
+}
+
+static void spoil_posts(struct dice *d, struct trial *t)
+{
+    if (chance(d, 2)) t->radius = hostile_radius(d, t);
+    else spoil_length(d, t, POSTS_STACK);
+}
+
 /* What only cleaning has. */
 static void spoil_cleaning(struct dice *d, struct trial *t)
 {
@@ -124,17 +137,20 @@ static int lends_long(const struct trial *t)
 void spoil(struct dice *d, struct trial *t)
 {
     for (uint64_t times = between(d, 1, 3); times > 0 && !lends_long(t); times--) {
-        if (t->call == CLEAN && chance(d, 3)) {
-            spoil_cleaning(d, t);
+        if ((t->call == CLEAN || t->call == POSTS) && chance(d, 3)) {
+            if (t->call == CLEAN) spoil_cleaning(d, t);
+            else spoil_posts(d, t);
             continue;
         }
         switch (below(d, 13)) {
         case 0:
         case 1: spoil_length(d, t, PART_STACK); break;
         case 2:
-        case 3: spoil_length(d, t, SUPPORT_STACK); break;
+        case 3: spoil_length(d, t, t->call == POSTS ? POSTS_STACK : SUPPORT_STACK); break;
         case 4:
-        case 5: spoil_length(d, t, RING_PLANES); break;
+        case 5:
+            if (t->call != POSTS) spoil_length(d, t, RING_PLANES);
+            break;
         case 6: spoil_settings(d, t); break;
         case 7: spoil_reach(d, t); break;
         case 8:

@@ -5,9 +5,9 @@
 #include <stdlib.h>
 #include <string.h>
 
-const char *const call_names[CALLS] = {"reach", "plan", "clean", "check", "read", "part", "support", "copy_rings", "write"};
-const char *const lent_names[LENTS] = {"part", "support", "rings", "cleaned", "file", "told", "out"};
-const unsigned widths[LENTS] = {1, 1, 2, 1, 1, 8, 1};
+const char *const call_names[CALLS] = {"reach", "plan", "clean", "posts", "check", "read", "part", "support", "copy_rings", "write"};
+const char *const lent_names[LENTS] = {"part", "support", "rings", "cleaned", "posts", "file", "told", "out"};
+const unsigned widths[LENTS] = {1, 1, 2, 1, 1, 1, 8, 1};
 
 int uses(enum call call, enum lent which)
 {
@@ -15,6 +15,7 @@ int uses(enum call call, enum lent which)
     case PLAN:
     case CHECK: return which == PART_STACK || which == SUPPORT_STACK || which == RING_PLANES;
     case CLEAN: return which == PART_STACK || which == SUPPORT_STACK || which == RING_PLANES || which == CLEANED_STACK;
+    case POSTS: return which == PART_STACK || which == POSTS_STACK;
     case READ: return which == JOB_FILE || which == TOLD;
     case PART:
     case SUPPORT: return which == JOB_FILE;
@@ -29,6 +30,7 @@ int writes(enum call call, enum lent which)
     switch (call) {
     case PLAN: return which == SUPPORT_STACK || which == RING_PLANES;
     case CLEAN: return which == SUPPORT_STACK || which == RING_PLANES || which == CLEANED_STACK;
+    case POSTS: return which == POSTS_STACK;
     case READ: return which == TOLD;
     case COPY_RINGS: return which == RING_PLANES;
     case WRITE: return which == OUT;
@@ -129,7 +131,7 @@ const uint8_t *looked_at(const struct trial *t, enum lent which)
     const struct buffer *file = &t->lent[JOB_FILE];
     uint64_t bytes = stack_bytes_of(t);
     if (writes(t->call, which)) return NULL;
-    if (!uses(t->call, JOB_FILE)) return t->lent[which].len == bytes ? t->lent[which].bytes : NULL;
+    if (!uses(t->call, JOB_FILE)) return uses(t->call, which) && t->lent[which].len == bytes ? t->lent[which].bytes : NULL;
     if (!tells_size_of(file->bytes, t)) return NULL;
     if (which == PART_STACK) return file->bytes + 18;
     return file->len > 26 + bytes ? file->bytes + 22 + bytes : NULL;

@@ -1,7 +1,7 @@
 /* What the files of the driver share: a trial is one call with its numbers and the buffers that it is lent.
  *
  *   draw.c    draws parts
- *   make.c    makes the trial of a seed and a case number, with spoil.c, make_padding.c, make_clean.c, make_check.c and make_file.c
+ *   make.c    makes the trial of a seed and a case number, with spoil.c, make_padding.c, make_clean.c, make_posts.c, make_check.c and make_file.c
  *   lend.c    lends the buffers of a trial to the library and to the peer, and watches the memory around them
  *   facts.c   asks what must hold between calls, and of what a refusal carries
  *   shrink.c  makes a failing trial smaller
@@ -19,8 +19,8 @@
 
 #include "kitegimlet.h"
 
-enum call { REACH, PLAN, CLEAN, CHECK, READ, PART, SUPPORT, COPY_RINGS, WRITE, CALLS };
-enum lent { PART_STACK, SUPPORT_STACK, RING_PLANES, CLEANED_STACK, JOB_FILE, TOLD, OUT, LENTS };
+enum call { REACH, PLAN, CLEAN, POSTS, CHECK, READ, PART, SUPPORT, COPY_RINGS, WRITE, CALLS };
+enum lent { PART_STACK, SUPPORT_STACK, RING_PLANES, CLEANED_STACK, POSTS_STACK, JOB_FILE, TOLD, OUT, LENTS };
 
 extern const char *const call_names[CALLS];
 extern const char *const lent_names[LENTS];
@@ -42,7 +42,8 @@ struct trial {
     enum call call;
     uint64_t w, h, n;
     uint32_t pitch, overhang;
-    uint64_t gap; /* for cleaning; else 0 */
+    uint64_t gap;    /* for cleaning; else 0 */
+    uint32_t radius; /* for posts; else 0 */
     struct buffer lent[LENTS];
     enum place place;
     unsigned skew;      /* bytes by which byte buffers between guards are off an even address */
@@ -90,7 +91,7 @@ void scribble(struct dice *d, uint8_t *bytes, uint64_t len);
 
 void draw_part(struct dice *d, uint8_t *part, uint64_t w, uint64_t h, uint64_t n); /* onto an empty stack */
 
-enum { LARGEST_CASES = 5 }; /* the first cases have the largest size; they take seconds each */
+enum { LARGEST_CASES = 6 }; /* the first cases have the largest size; they take seconds each */
 
 void make_trial(struct trial *t, uint64_t seed, uint64_t number);
 

@@ -2,6 +2,7 @@
 #define peer_reach faulty_reach
 #define peer_plan faulty_plan
 #define peer_clean faulty_clean
+#define peer_posts faulty_posts
 #define peer_check faulty_check
 #define peer_read faulty_read
 #define peer_part faulty_part

@@ -1,5 +1,5 @@
 /* What tests/peer.c asks of C's headers, for wasm without a C library: it stands in for stdint.h, inttypes.h, stdio.h and stdlib.h.
- * The peer holds one allocation at a time.
+ * The peer frees what it allocated last first.
  */
 #ifndef BARE_H
 #define BARE_H
@@ -19,15 +19,18 @@ typedef __SIZE_TYPE__ size_t;
 #define snprintf(text, room, ...) ((void)(room), (text)[0] = 0) /* the report's text: not a call of the library */
 #define abort __builtin_trap
 
-enum { ARENA = 1 << 20 }; /* the peer's queue of 65,537 numbers, and more */
+enum { ARENA = 1 << 21 }; /* three lists of 65,537 numbers, and more: what the peer holds at a time for posts */
 static uint64_t arena[ARENA / 8];
+static size_t used; /* of the numbers of the arena */
 
 static void *calloc(size_t count, size_t width)
 {
-    if (count > ARENA / width) return NULL;
-    return __builtin_memset(arena, 0, count * width);
+    size_t numbers = (count * width + 7) / 8;
+    if (count > ARENA / width || numbers > ARENA / 8 - used) return NULL;
+    used += numbers;
+    return __builtin_memset(arena + used - numbers, 0, count * width);
 }
 
-static void free(void *room) { (void)room; }
+static void free(void *room) { used = (size_t)((uint64_t *)room - arena); }
 
 #endif

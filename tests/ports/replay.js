@@ -10,14 +10,14 @@
 const fs = require('fs');
 const { Worker, isMainThread, parentPort, workerData } = require('worker_threads');
 
-const CALLS = ['reach', 'plan', 'clean', 'check', 'read', 'part', 'support', 'copy_rings', 'write'];
-const LENT = ['part', 'support', 'rings', 'cleaned', 'file', 'told', 'out'];
-const WIDTH = { part: 1, support: 1, rings: 2, cleaned: 1, file: 1, told: 8, out: 1 };
+const CALLS = ['reach', 'plan', 'clean', 'posts', 'check', 'read', 'part', 'support', 'copy_rings', 'write'];
+const LENT = ['part', 'support', 'rings', 'cleaned', 'posts', 'file', 'told', 'out'];
+const WIDTH = { part: 1, support: 1, rings: 2, cleaned: 1, posts: 1, file: 1, told: 8, out: 1 };
 const USES = { // in the order of the arguments
-    reach: [], plan: ['part', 'support', 'rings'], clean: ['part', 'support', 'rings', 'cleaned'], check: ['part', 'support', 'rings'],
-    read: ['file', 'told'], part: ['file'], support: ['file'], copy_rings: ['file', 'rings'], write: ['part', 'support', 'rings', 'out'],
+    reach: [], plan: ['part', 'support', 'rings'], clean: ['part', 'support', 'rings', 'cleaned'], posts: ['part', 'posts'],
+    check: ['part', 'support', 'rings'], read: ['file', 'told'], part: ['file'], support: ['file'], copy_rings: ['file', 'rings'], write: ['part', 'support', 'rings', 'out'],
 };
-const TAKES = { plan: 'sizes', clean: 'sizes', check: 'sizes', write: 'sizes', reach: 'settings' };
+const TAKES = { plan: 'sizes', clean: 'sizes', posts: 'sizes', check: 'sizes', write: 'sizes', reach: 'settings' };
 const LAST = 2;              // enum place: right before closed memory
 const GUARD = 64;
 const ZEROS = 80 << 20;      // behind the bytes of a long buffer: more than the longest job
@@ -64,6 +64,7 @@ function takeTrial(from) {
     t.sizes = [from.number(), from.number(), from.number()];
     t.settings = [from.small(), from.small()];
     t.gap = from.number();
+    t.radius = from.small();
     t.answer = from.number();
     const lent = LENT.filter((name) => USES[t.call].includes(name)).map((name) => {
         const b = { name, len: from.number(), held: from.small() };
@@ -153,6 +154,7 @@ function wordsOf(t) {
     if (TAKES[t.call] === 'sizes') words.push(...t.sizes);
     if (TAKES[t.call] !== undefined) words.push(...t.settings);
     if (t.call === 'clean') words.push(BigInt.asIntN(64, t.gap));
+    if (t.call === 'posts') words.push(t.radius);
     for (const b of t.lent) words.push(t.nullForEmpty && b.len === 0n ? 0 : b.at, BigInt.asIntN(64, b.len));
     return words;
 }
