@@ -1,18 +1,21 @@
 /* The benchmark's driver: runs one call on one input, a number of times.
  *
- * usage: bench WHAT INPUT W H N T TIMES [GAP..]
+ * usage: bench WHAT INPUT W H N T TIMES [GAP.. | RADIUS..]
  *        bench clock INPUT W H N T ROUNDS [GAP]
+ *        bench clock-posts INPUT W H N T ROUNDS RADIUS
  *
- * WHAT is plan, check or clean (the library), peer-plan or peer-check (the peer), tuned-plan, tuned-check or tuned-clean (the peer that is
- * tuned further), floor (what no planner can do without: zeroing the ring planes and copying the part), or compare (all three must agree on
- * every byte, and where a byte is spoiled on number and place; at GAPs those that clean). A check judges what was planned before, by the tuned peer, which is not part of the TIMES. INPUT
- * is empty, solid, sphere, lattice, noise, spiral, meander, wide or maze; T is the overhang in pixels, as 10 or 32.99; GAP is that of
- * cleaning in whole pixels, 0 where it is not given. With TIMES 0 only the input is made, so what a call costs by any measure is the
- * difference.
+ * WHAT is plan, check, clean or posts (the library), peer-plan or peer-check (the peer), tuned-plan, tuned-check, tuned-clean or tuned-posts
+ * (the peer that is tuned further), floor (what no planner can do without: zeroing the ring planes and copying the part), compare (all three
+ * must agree on every byte, and where a byte is spoiled on number and place; at GAPs those that clean), compare-posts (those that make posts
+ * must agree on every byte at each RADIUS), or count-posts (prints how many posts have none above them). A check
+ * judges what was planned before, by the tuned peer, which is not part of the TIMES. INPUT is empty, solid, sphere, lattice, noise, spiral,
+ * meander, wide or maze; T is the overhang in pixels, as 10 or 32.99; GAP is that of cleaning in whole pixels, RADIUS that of posts in
+ * micrometres, a pixel being 100 wide; both are 0 where they are not given. With TIMES 0 only the input is made, so what a call costs by any
+ * measure is the difference.
  *
- * clock lets floor, planners and checkers take turns, ROUNDS times, or with a GAP those that plan and clean, and prints a line for each:
- * WHAT, then the milliseconds of each round by the clock that counts the time that this thread had a processor. A round before these is not
- * counted.
+ * clock lets floor, planners and checkers take turns, ROUNDS times, or with a GAP those that plan and clean, clock-posts those that plan and
+ * make posts. They print a line for each: WHAT, then the milliseconds of each round by the clock that counts the time that this thread had a
+ * processor. A round before these is not counted.
  */
 #define _POSIX_C_SOURCE 199309L
 #include "inputs.h"
@@ -27,9 +30,9 @@ enum { PITCH = 100 };
 
 struct job {
     struct size s;
-    uint32_t overhang;
+    uint32_t overhang, radius;
     size_t gap;
-    uint8_t *part, *support, *cleaned;
+    uint8_t *part, *support, *cleaned, *posts;
     uint16_t *rings;
 };
 
@@ -73,6 +76,11 @@ static void clean_by(clean_call *call, const struct job *j)
                 ring_count(j->s), j->cleaned, stack_bytes(j->s)));
 }
 
+static void posts_by(posts_call *call, const struct job *j)
+{
+    accept(call(j->s.w, j->s.h, j->s.n, PITCH, j->overhang, j->radius, j->part, stack_bytes(j->s), j->posts, stack_bytes(j->s)));
+}
+
 static void least(const struct job *j)
 {
     memset(j->rings, 0, ring_count(j->s) * sizeof *j->rings);
@@ -96,13 +104,24 @@ static const struct {
     clean_call *clean;
 } cleaners[] = {{"clean", kg_clean}, {"tuned-clean", tuned_clean}};
 
-enum { PLANNERS = sizeof planners / sizeof *planners, CLEANERS = sizeof cleaners / sizeof *cleaners };
+/* Those that make posts. */
+static const struct {
+    const char *name;
+    posts_call *posts;
+} posters[] = {{"posts", kg_posts}, {"tuned-posts", tuned_posts}};
+
+enum {
+    PLANNERS = sizeof planners / sizeof *planners,
+    CLEANERS = sizeof cleaners / sizeof *cleaners,
+    POSTERS = sizeof posters / sizeof *posters
+};
 
 /* ---- Comparing ---- */
 
 /* Fills what a call is to write, so that its memory is there and holds other bytes. */
 static void spoil(const struct job *j)
 {
+    memset(j->posts, 0xA5, stack_bytes(j->s));
     memset(j->cleaned, 0xA5, stack_bytes(j->s));
     memset(j->support, 0xA5, stack_bytes(j->s));
     memset(j->rings, 0xA5, ring_count(j->s) * sizeof *j->rings);
@@ -113,6 +132,7 @@ static void lend(struct job *j)
     j->support = room(stack_bytes(j->s), 1);
     j->rings = room(ring_count(j->s), sizeof *j->rings);
     j->cleaned = room(stack_bytes(j->s), 1);
+    j->posts = room(stack_bytes(j->s), 1);
     spoil(j);
 }
 
@@ -190,6 +210,32 @@ static void compare_cleaned(const struct job *j, const size_t *gaps, size_t coun
     }
 }
 
+/* Those that make posts must agree. */
+static void compare_posts(const struct job *j, const size_t *radii, size_t count)
+{
+    struct job other = *j;
+    lend(&other);
+    for (size_t k = 0; k < count; k++) {
+        other.radius = (uint32_t)radii[k];
+        for (size_t p = 0; p < POSTERS; p++) {
+            spoil(&other);
+            posts_by(posters[p].posts, &other);
+            if (p == 0) memcpy(j->posts, other.posts, stack_bytes(j->s));
+            if (memcmp(j->posts, other.posts, stack_bytes(j->s)) != 0) die("posts differ");
+        }
+    }
+}
+
+/* How many posts are new: with none right above them. */
+static unsigned long new_posts(const struct job *j)
+{
+    size_t plane = stack_bytes(j->s) / j->s.n;
+    unsigned long count = 0;
+    posts_by(tuned_posts, j);
+    for (size_t k = 0; k + plane < stack_bytes(j->s); k++) count += (unsigned)__builtin_popcount(j->posts[k] & ~j->posts[k + plane]);
+    return count;
+}
+
 /* ---- The command line ---- */
 
 static size_t number(const char *word, size_t low, size_t high)
@@ -223,6 +269,7 @@ static struct job make_job(char **words)
     j.s.n = number(words[3], 1, 512);
     j.overhang = overhang(words[4]);
     j.gap = 0;
+    j.radius = 0;
     j.part = room(stack_bytes(j.s), 1);
     input->draw(j.s, j.part);
     lend(&j);
@@ -258,16 +305,27 @@ static int run(const char *what, const struct job *j)
             clean_by(cleaners[k].clean, j);
             return 1;
         }
+    for (size_t k = 0; k < POSTERS; k++)
+        if (strcmp(what, posters[k].name) == 0) {
+            posts_by(posters[k].posts, j);
+            return 1;
+        }
     return 0;
 }
 
 /* ---- The clock ---- */
 
-/* Whose turns there are without a gap and with one. */
+/* Whose turns there are without a gap, with one, and with a radius. */
 static const char *const turns[] = {"floor", "plan", "peer-plan", "tuned-plan", "check", "peer-check", "tuned-check"};
 static const char *const cleaning_turns[] = {"plan", "tuned-plan", "clean", "tuned-clean"};
+static const char *const posts_turns[] = {"plan", "tuned-plan", "posts", "tuned-posts"};
 
-enum { TURNS = sizeof turns / sizeof *turns, CLEANING_TURNS = sizeof cleaning_turns / sizeof *cleaning_turns, MOST_ROUNDS = 1000 };
+enum {
+    TURNS = sizeof turns / sizeof *turns,
+    CLEANING_TURNS = sizeof cleaning_turns / sizeof *cleaning_turns,
+    POSTS_TURNS = sizeof posts_turns / sizeof *posts_turns,
+    MOST_ROUNDS = 1000
+};
 
 static int is_check(const char *what) { return strstr(what, "check") != NULL; }
 
@@ -295,22 +353,36 @@ static void clock_rounds(const struct job *j, const char *const *whats, size_t c
     }
 }
 
-enum { MOST_GAPS = 33 };
+enum { MOST_LAST = 33 };
 
 int main(int count, char **words)
 {
-    size_t gaps[MOST_GAPS], many = 0;
-    if (count < 8 || count > 8 + MOST_GAPS) die("usage: bench WHAT INPUT W H N T TIMES [GAP..]");
+    size_t last[MOST_LAST], many = 0; /* the gaps or radii */
+    if (count < 8 || count > 8 + MOST_LAST) die("usage: bench WHAT INPUT W H N T TIMES [GAP.. | RADIUS..]");
     size_t times = number(words[7], 0, 1000000);
+    int posts = strstr(words[1], "posts") != NULL;
     struct job j = make_job(words + 2);
     while (8 + (int)many < count) {
-        gaps[many] = number(words[8 + many], 0, 32);
+        last[many] = number(words[8 + many], 0, posts ? 3299 : 32);
         many++;
     }
-    if (many > 0) j.gap = gaps[0];
+    if (many > 0 && posts) j.radius = (uint32_t)last[0];
+    if (many > 0 && !posts) j.gap = last[0];
     if (strcmp(words[1], "compare") == 0) {
         if (many == 0) compare(&j);
-        else compare_cleaned(&j, gaps, many);
+        else compare_cleaned(&j, last, many);
+        return 0;
+    }
+    if (strcmp(words[1], "compare-posts") == 0) {
+        compare_posts(&j, last, many);
+        return 0;
+    }
+    if (strcmp(words[1], "count-posts") == 0) {
+        printf("%lu\n", new_posts(&j));
+        return 0;
+    }
+    if (strcmp(words[1], "clock-posts") == 0) {
+        clock_rounds(&j, posts_turns, POSTS_TURNS, times);
         return 0;
     }
     if (strcmp(words[1], "clock") == 0) {

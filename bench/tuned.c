@@ -1,4 +1,4 @@
-/* Planning, judging and cleaning in C that was tuned as far as that paid. What makes it faster than the peer, which does not clean:
+/* Planning, judging, cleaning and posts in C that was tuned as far as that paid. What makes it faster than the peer, which only plans and judges:
  *
  * - Stacks are passed over by bytes in flat loops, which the compiler turns into vector code. A pair of layers with no shadow or no
  *   seed ends there.
@@ -12,6 +12,8 @@
  *   where a test fails it looks for the first place, pixel by pixel.
  * - Cleaning plans first. A layer's support is closed by rows, two at a time as vectors, and only where it has pixels and is not that of
  *   the layer above; rows with nothing or with a full row nearby are passed over.
+ * - Posts are made by rows that have pixels left. Those gone down grow as seeds do. What grows from a new post is found in windows of 64 columns,
+ *   from its own row down, as nothing remains above it, and up again only where that adds something.
  */
 #include "peers.h"
 
@@ -716,6 +718,227 @@ kg_answer tuned_clean(uint64_t w, uint64_t h, uint64_t n, uint32_t pitch, uint32
     if (answer == 0) answer = tuned_plan(w, h, n, pitch, overhang, part, part_len, support, support_len, rings, rings_len);
     if (answer == 0) clean(&s, (int)gap, part, support, cleaned);
     return answer;
+}
+
+/* ---- What grows from a new post ---- */
+
+/* A row of what remains: an empty word, its four, an empty word. So a window of 64 columns may lie across either end. */
+typedef uint64_t padded[WORDS + 2];
+
+/* Windows have the post's column `before` columns from their first. A disc of 65 columns has its last one by itself. */
+struct taking {
+    int reach, before;
+    uint64_t disc[REACH + 1];     /* its columns in each row from the post's on */
+    uint8_t last_disc[REACH + 1]; /* and whether it has the one after the window */
+    uint64_t free[REACH + 1], got[REACH + 1];
+    uint8_t last_free[REACH + 1], last_got[REACH + 1];
+    padded rest[MOST + REACH + 1]; /* what remains; rows past the image are empty */
+};
+
+static void open_taking(struct taking *t, const struct stack *radius)
+{
+    t->reach = radius->reach;
+    t->before = radius->half[1] < REACH ? REACH - 1 : REACH; /* to its left the post's own row has nothing */
+    for (int d = 0; d <= t->reach; d++) {
+        int first = radius->half[d] < t->before ? t->before - radius->half[d] : 0, end = t->before + radius->half[d] + 1;
+        t->disc[d] = ~0ull >> first & ~(end < 64 ? ~0ull >> end : 0);
+        t->last_disc[d] = end > 64;
+    }
+}
+
+/* Columns are counted from the empty word on. */
+INLINE uint64_t window(const uint64_t *r, size_t from)
+{
+    size_t k = from / 64, o = from % 64;
+    return r[k] << o | r[k + 1] >> 1 >> (63 - o);
+}
+
+INLINE void leave_window(uint64_t *r, size_t from, uint64_t bits)
+{
+    size_t k = from / 64, o = from % 64;
+    r[k] &= ~(bits >> o);
+    r[k + 1] &= ~(bits << 1 << (63 - o));
+}
+
+/* The runs of `free` in which pixels of `from` are: to higher bits by carries, to lower ones by doubled steps. */
+INLINE uint64_t along(uint64_t free, uint64_t from)
+{
+    uint64_t got = (((free + from) ^ free) & free) | from;
+    for (int by = 1; by < 64 && free != 0; by *= 2) {
+        got |= free & got >> by;
+        free &= free >> by;
+    }
+    return got;
+}
+
+/* Adds to row d what is beside the pixels of another row, and what that leads to along the row. Answers whether anything was added. */
+INLINE int take_in_row(struct taking *t, int d, int other, int two)
+{
+    uint64_t a = t->got[other], from = (a | a << 1 | a >> 1) & t->free[d] & ~t->got[d];
+    int last = 0;
+    if (two) {
+        if (t->last_got[other]) from |= t->free[d] & ~t->got[d] & 1;
+        last = t->last_free[d] && !t->last_got[d] && (t->last_got[other] || (a & 1) != 0);
+        t->last_got[d] |= (uint8_t)last;
+        if (last) from |= t->free[d] & ~t->got[d] & 1;
+    }
+    if (from == 0) return last;
+    t->got[d] |= along(t->free[d], from);
+    if (two && t->last_free[d] && (t->got[d] & 1) != 0) t->last_got[d] = 1;
+    return 1;
+}
+
+INLINE void look_at_row(struct taking *t, const uint64_t *r, int d, size_t from, int two)
+{
+    t->free[d] = window(r, from) & t->disc[d];
+    t->got[d] = 0;
+    if (!two) return;
+    t->last_free[d] = t->last_disc[d] && (r[(from + 64) / 64] >> (63 - from % 64) & 1) != 0;
+    t->last_got[d] = 0;
+}
+
+/* Takes away the first remaining pixel, at row y and column x, and what grows from it. */
+INLINE void take_from(struct taking *t, size_t y, size_t x, int two)
+{
+    size_t from = 64 + x - (size_t)(two ? REACH : REACH - 1);
+    int seen = 0, deep = 0, again;
+    look_at_row(t, t->rest[y], 0, from, two);
+    uint64_t post = 1ull << (63 - t->before), right = t->free[0] << t->before;
+    t->got[0] = ~right == 0 ? t->free[0] : (post << 1) - (post >> (__builtin_clzll(~right) - 1));
+    if (two && t->last_free[0] && (t->got[0] & 1) != 0) t->last_got[0] = 1;
+    do {
+        for (int d = 1; d <= t->reach && d <= deep + 1; d++) {
+            if (d > seen) look_at_row(t, t->rest[y + (size_t)d], seen = d, from, two);
+            if (take_in_row(t, d, d - 1, two) && d > deep) deep = d;
+        }
+        again = 0;
+        for (int d = deep; d-- > 0;) again |= take_in_row(t, d, d + 1, two);
+    } while (again);
+    for (int d = 0; d <= deep; d++) {
+        leave_window(t->rest[y + (size_t)d], from, t->got[d]);
+        if (two && t->last_got[d]) t->rest[y + (size_t)d][(from + 64) / 64] &= ~(1ull << (63 - from % 64));
+    }
+}
+
+/* ---- Posts ---- */
+
+/* The new posts of a row, whose pixels are all taken away. */
+static row new_posts(struct taking *t, size_t y)
+{
+    row found = {{0}};
+    for (size_t k = 0; k < WORDS; k++)
+        while (t->rest[y][k + 1] != 0) {
+            size_t column = (size_t)__builtin_clzll(t->rest[y][k + 1]);
+            found.v[k] |= 1ull << (63 - column);
+            if (t->before == REACH) take_from(t, y, 64 * k + column, 1);
+            else take_from(t, y, 64 * k + column, 0);
+        }
+    return found;
+}
+
+/* The posts that go down. Answers whether there are any. */
+static int go_down(const uint8_t *restrict low, const uint8_t *restrict above, uint8_t *restrict down, size_t n)
+{
+    uint8_t any = 0;
+#pragma GCC unroll 8
+    for (size_t k = 0; k < n; k++) any |= down[k] = (uint8_t)(above[k] & ~low[k]);
+    return any != 0;
+}
+
+/* Takes the excused pixels from the shadow and keeps the rows where some are left; in the others posts only go down. */
+static void keep_left(struct growth *g, const uint8_t *above, uint8_t *below)
+{
+    struct pair *p = &g->pair;
+    size_t bytes = p->s->bytes, count = 0;
+    for (size_t k = 0; k < p->count; k++) {
+        size_t y = p->rows[k];
+        row low = raw_row(p->low + y * bytes, bytes), left = row_but(turned(row_but(raw_row(p->up + y * bytes, bytes), low)), g->got[y + 1]);
+        g->got[y + 1] = (row){{0}};
+        p->shadow[y + 1] = left;
+        if (row_any(left)) p->rows[count++] = (uint16_t)y;
+        else put_row(below + y * bytes, row_but(raw_row(above + y * bytes, bytes), low), bytes);
+    }
+    p->count = count;
+}
+
+/* What remains of the rows with pixels left. */
+static void keep_rest(struct growth *g, struct taking *t)
+{
+    for (size_t k = 0; k < g->pair.count; k++) {
+        size_t y = g->pair.rows[k];
+        memcpy(t->rest[y] + 1, &g->pair.shadow[y + 1], sizeof(row));
+    }
+}
+
+/* Takes away what grows from the posts gone down, which are the lower part of a pair under what is left. */
+static void take_together(struct growth *g, const struct stack *radius, struct taking *t, const uint8_t *down, const uint8_t *below)
+{
+    struct pair *p = &g->pair;
+    p->s = radius;
+    p->low = down;
+    p->up = below;
+    p->measured = 0;
+    find_seeds(p);
+    grow(g);
+    for (size_t k = 0; k < p->count; k++) {
+        size_t y = p->rows[k];
+        for (int j = 0; j < WORDS; j++) t->rest[y][j + 1] &= ~g->got[y + 1].v[j];
+    }
+    empty_rows(p, g->got);
+}
+
+/* The posts of a layer that has shadow above it: those gone down, and new ones in the rows where pixels are left. */
+static void hold(struct growth *g, const struct stack *radius, struct taking *t, const uint8_t *above, uint8_t *below)
+{
+    static uint8_t down[MOST * sizeof(row)];
+    struct pair *p = &g->pair;
+    size_t bytes = radius->bytes;
+    keep_left(g, above, below);
+    if (p->count == 0) return;
+    keep_rest(g, t);
+    if (go_down(p->low, above, down, radius->plane)) take_together(g, radius, t, down, below);
+    for (size_t k = 0; k < p->count; k++) {
+        size_t y = p->rows[k];
+        put_row(below + y * bytes, row_or(raw_row(down + y * bytes, bytes), turned(new_posts(t, y))), bytes);
+    }
+}
+
+/* Rings are written over each other: only what has one is asked. */
+static void post(const struct stack *s, const struct stack *radius, const uint8_t *part, uint8_t *posts)
+{
+    static struct growth g;
+    static struct taking t;
+    static uint16_t rings[MOST * MOST];
+    make_ones();
+    open_taking(&t, radius);
+    g.rings = rings;
+    memset(posts + (s->n - 1) * s->plane, 0, s->plane);
+    for (size_t i = s->n - 1; i-- > 0;) {
+        const uint8_t *low = part + i * s->plane, *up = low + s->plane;
+        uint8_t *below = posts + i * s->plane;
+        if (!carry(low, up, below + s->plane, below, s->plane)) continue;
+        if (radius->reach == 0 && (s->reach == 0 || !meet(low, up, s->plane))) continue;
+        open_pair(&g.pair, s, low, up);
+        if (s->reach != 0) grow(&g);
+        if (radius->reach == 0) excuse(&g, below);
+        else hold(&g, radius, &t, below + s->plane, below);
+        empty_rows(&g.pair, g.got);
+        empty_rows(&g.pair, g.pair.shadow);
+    }
+}
+
+kg_answer tuned_posts(uint64_t w, uint64_t h, uint64_t n, uint32_t pitch, uint32_t overhang, uint32_t radius,
+                      const uint8_t *part, uint64_t part_len,
+                      uint8_t *posts, uint64_t posts_len)
+{
+    struct stack s, of_radius;
+    unsigned number = settle(&s, w, h, n, pitch, overhang);
+    if (number == 0 && settle(&of_radius, w, h, n, pitch, radius) != 0) number = 20;
+    if (number == 0) number = lengths(&s, part_len, posts_len, (n - 1) * w * h);
+    if (number != 0) return number;
+    kg_answer padding = bad_padding(&s, part, 7);
+    if (padding == 0) post(&s, &of_radius, part, posts);
+    return padding;
 }
 
 /* ---- Judging ---- */
