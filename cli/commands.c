@@ -1,10 +1,10 @@
-/* kg: plan, clean, check and report. Each is one story of steps that stops at the first that does not answer DONE. */
+/* kg: plan, clean, posts, check and report. Each is one story of steps that stops at the first that does not answer DONE. */
 #include <inttypes.h>
 #include <stdio.h>
 
 #include "kg.h"
 
-/* The end of plan and of clean: saves a job whose support was made, or tells why it was not. */
+/* The end of plan, of clean and of posts: saves a job whose support was made, or tells why it was not. */
 static enum status store(struct job *job, const char *out, enum status made)
 {
     enum status status = made;
@@ -39,12 +39,35 @@ enum status command_clean(const struct arguments *arguments)
 {
     struct job job;
     uint64_t gap;
-    enum status status = parse_gap(arguments->gap, &gap);
+    enum status status = parse_gap(arguments->number, &gap);
     if (status != DONE)
         return status;
     status = job_read(&job, arguments->operand[0]);
     if (status == DONE)
         status = job_clean(&job, gap);
+    return store(&job, arguments->operand[1], status);
+}
+
+/* Which radii are too large the library says too. */
+static enum status parse_radius(const char *word, uint64_t *radius)
+{
+    if (word == NULL)
+        return fail("--radius with a number from 0 to 10000 is missing; usage: kg posts IN OUT --radius T");
+    if (!parse_number(word, radius))
+        return fail("T behind --radius is a number from 0 to 10000, not '%s' (see kg posts --help)", word);
+    return DONE;
+}
+
+enum status command_posts(const struct arguments *arguments)
+{
+    struct job job;
+    uint64_t radius;
+    enum status status = parse_radius(arguments->number, &radius);
+    if (status != DONE)
+        return status;
+    status = job_read(&job, arguments->operand[0]);
+    if (status == DONE)
+        status = job_posts(&job, radius);
     return store(&job, arguments->operand[1], status);
 }
 

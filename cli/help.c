@@ -23,6 +23,7 @@ const char help_kg[] =
     "\n"
     "  kg plan IN OUT                plan support afresh and store it with the job\n"
     "  kg clean IN OUT --gap C       the same with thin gaps in the support closed\n"
+    "  kg posts IN OUT --radius T    single-pixel posts in place of support\n"
     "  kg check JOB                  judge the support that is stored\n"
     "  kg report JOB                 count part, support and excused pixels by layer\n"
     "  kg show JOB LAYER [--rings]   one layer as a picture, or its ring numbers\n"
@@ -40,6 +41,7 @@ const char help_kg[] =
     "  kg check planned.kg\n"
     "  kg show planned.kg 3\n"
     "  kg clean gap.kg cleaned.kg --gap 2\n"
+    "  kg posts roof.kg posts.kg --radius 200\n"
     "  kg show painted.kg --refused\n"
     STATUSES("done; for check: the stored support is accepted");
 
@@ -89,6 +91,37 @@ const char help_clean[] =
     "  kg clean gap.kg cleaned.kg --gap 2\n"
     "  kg show cleaned.kg 0\n"
     "  kg clean --gap 1 gap.kg - | kg check -\n"
+    STATUSES("OUT is written");
+
+const char help_posts[] =
+    "usage: kg posts IN OUT --radius T\n"
+    "\n"
+    "Reads the job IN, makes posts for its part, for resin machines, and writes the\n"
+    "job with the posts as its support, and with the planned rings, to OUT. Support\n"
+    "and rings that IN holds are not used.\n"
+    "\n"
+    "  --radius T  how far a post holds what is above it, in micrometres from middle\n"
+    "              to middle. A post holds the pixels that need support within T of it\n"
+    "              and are joined to it by such pixels. In each layer the posts from\n"
+    "              above come first; what they do not hold gets new posts, row by row\n"
+    "              from the left. 0: each pixel that needs support is a post, and OUT\n"
+    "              is what kg plan writes.\n"
+    "\n"
+    "T must be given, in plain digits. 0 to 10000 are taken, where T divided by the\n"
+    "pixel width, rounded down, is 32 at most; every larger number, however long, is\n"
+    "refused with 20; anything else is misuse.\n"
+    "\n"
+    "A post goes down to part or to the platform. The rings are those of kg plan: they\n"
+    "say which pixels need no support. kg check knows of no radius: with one of a\n"
+    "pixel or more it takes what only the radius holds for part that hangs (11).\n"
+    "\n"
+    HOW_OUT_IS_WRITTEN
+    "How links, permissions and devices are met, kg plan --help says.\n"
+    "\n"
+    "examples\n"
+    "  kg posts roof.kg posts.kg --radius 200\n"
+    "  kg show posts.kg 3\n"
+    "  kg posts --radius 0 roof.kg - | kg check -\n"
     STATUSES("OUT is written");
 
 const char help_check[] =
@@ -156,7 +189,8 @@ const char help_show[] =
     "So o is no part of this layer: it marks where the layer above runs out over\n"
     "nothing and holds itself, beside + where it needs support. What is part or\n"
     "support here is shown as that. In a planned or cleaned job the picture has as\n"
-    "many #, + and o as the line of this layer in kg report.\n"
+    "many #, + and o as the line of this layer in kg report. In a job of kg posts + is\n"
+    "a post; what posts hold by their radius is drawn as what it is here: empty.\n"
     "\n"
     "  --rings    in place of the picture the ring numbers of layers LAYER and LAYER+1\n"
     "             as a table: 1 next to part that stands on part, 2 one step further\n"

@@ -1,4 +1,4 @@
-/* kg: a job in memory: read, judged, planned, cleaned, stored.
+/* kg: a job in memory: read, judged, planned, cleaned, held by posts, stored.
  *
  * Sizes are computed only once kg_read has accepted the file. Then the largest stack has 4,194,304 bytes, the largest ring planes
  * 33,488,896 numbers and the longest job 75,366,426 bytes, so no sum or product here comes near 64 bits. */
@@ -91,6 +91,19 @@ enum status job_clean(struct job *job, uint64_t gap)
                                   job->planned, job->stack_length, job->rings, job->ring_count, job->cleaned, job->stack_length));
 }
 
+enum status job_posts(struct job *job, uint64_t radius)
+{
+    job->posts = room(job->stack_length, sizeof *job->posts);
+    if (job->posts == NULL)
+        return UNUSABLE;
+    enum status status = answered(job, kg_posts(job->w, job->h, job->n, job->pitch, job->overhang, (uint32_t)radius, job->part,
+                                                job->stack_length, job->posts, job->stack_length));
+    if (status == DONE)
+        status = job_plan(job);
+    job->support = job->posts;
+    return status;
+}
+
 enum status job_plan_beside(struct job *job)
 {
     enum status status = UNUSABLE;
@@ -124,6 +137,7 @@ void job_free(struct job *job)
     free(job->original.data);
     free(job->planned);
     free(job->cleaned);
+    free(job->posts);
     free(job->rings);
 }
 

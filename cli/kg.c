@@ -1,4 +1,4 @@
-/* kg: plans support, cleans it, judges it, reports it and shows it, from job files. This file: arguments and main. */
+/* kg: plans support, cleans it, puts posts in its place, judges it, reports it and shows it, from job files. This file: arguments and main. */
 #include <stdio.h>
 #include <string.h>
 
@@ -17,18 +17,19 @@ struct command {
     const char *name;
     const char *usage;
     int operands;
-    bool has_views; /* takes --rings, and --refused in place of its last operand */
-    bool has_gap;   /* takes --gap with a word behind it */
+    bool has_views;     /* takes --rings, and --refused in place of its last operand */
+    const char *number; /* the option that it takes with a word behind it; null for none */
     const char *help;
     enum status (*run)(const struct arguments *arguments);
 };
 
 static const struct command commands[] = {
-    {"plan", "kg plan IN OUT", 2, false, false, help_plan, command_plan},
-    {"clean", "kg clean IN OUT --gap C", 2, false, true, help_clean, command_clean},
-    {"check", "kg check JOB", 1, false, false, help_check, command_check},
-    {"report", "kg report JOB", 1, false, false, help_report, command_report},
-    {"show", "kg show JOB LAYER [--rings] or kg show JOB --refused [--rings]", 2, true, false, help_show, command_show},
+    {"plan", "kg plan IN OUT", 2, false, NULL, help_plan, command_plan},
+    {"clean", "kg clean IN OUT --gap C", 2, false, "--gap", help_clean, command_clean},
+    {"posts", "kg posts IN OUT --radius T", 2, false, "--radius", help_posts, command_posts},
+    {"check", "kg check JOB", 1, false, NULL, help_check, command_check},
+    {"report", "kg report JOB", 1, false, NULL, help_report, command_report},
+    {"show", "kg show JOB LAYER [--rings] or kg show JOB --refused [--rings]", 2, true, NULL, help_show, command_show},
 };
 
 static bool is_help(const char *word)
@@ -70,10 +71,10 @@ static enum status take_option(const struct command *command, const char *word, 
     return DONE;
 }
 
-/* Takes the word behind --gap; answers the last word taken, --gap itself where it is the last of all. */
-static char **take_gap(char *words[], struct arguments *arguments)
+/* Takes the word behind --gap or --radius; answers the last word taken, the option itself where it is the last of all. */
+static char **take_number(char *words[], struct arguments *arguments)
 {
-    arguments->gap = words[1];
+    arguments->number = words[1];
     return words[1] == NULL ? words : words + 1;
 }
 
@@ -93,8 +94,8 @@ static enum status take_words(const struct command *command, char *words[], stru
     for (; *words != NULL && status == DONE; words++) {
         if (options && strcmp(*words, "--") == 0)
             options = false;
-        else if (options && command->has_gap && strcmp(*words, "--gap") == 0)
-            words = take_gap(words, arguments);
+        else if (options && command->number != NULL && strcmp(*words, command->number) == 0)
+            words = take_number(words, arguments);
         else if (options && (*words)[0] == '-' && (*words)[1] != '\0')
             status = take_option(command, *words, arguments);
         else

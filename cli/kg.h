@@ -2,10 +2,10 @@
  *
  * kg.c       arguments and main
  * help.c     the texts of --help
- * commands.c plan, clean, check and report
+ * commands.c plan, clean, posts, check and report
  * show.c     show: pictures and tables of rings
  * point.c    show --refused: finds what they point at
- * job.c      a job in memory: read, judged, planned, cleaned, stored
+ * job.c      a job in memory: read, judged, planned, cleaned, held by posts, stored
  * refusals.c refusal numbers in words
  * files.c    files read whole and saved safely, memory, error messages
  */
@@ -28,17 +28,18 @@ struct arguments {
     int count;
     bool help;
     bool rings;
-    bool refused;    /* and so there is no LAYER */
-    const char *gap; /* the word behind --gap; null where there is none */
+    bool refused;       /* and so there is no LAYER */
+    const char *number; /* the word behind --gap or --radius; null where there is none */
 };
 
 enum status command_plan(const struct arguments *arguments);
 enum status command_clean(const struct arguments *arguments);
+enum status command_posts(const struct arguments *arguments);
 enum status command_check(const struct arguments *arguments);
 enum status command_report(const struct arguments *arguments);
 enum status command_show(const struct arguments *arguments);
 
-extern const char help_kg[], help_plan[], help_clean[], help_check[], help_report[], help_show[];
+extern const char help_kg[], help_plan[], help_clean[], help_posts[], help_check[], help_report[], help_show[];
 
 /* kg.c */
 
@@ -86,9 +87,10 @@ struct job {
     const uint8_t *part;
     uint64_t stack_length; /* bytes of the part, and of the support */
 
-    const uint8_t *support; /* stored, planned or cleaned; null before */
+    const uint8_t *support; /* stored, planned, cleaned or posts; null before */
     uint8_t *planned;
     uint8_t *cleaned;
+    uint8_t *posts;
     uint16_t *rings;
     uint64_t ring_count;
 };
@@ -110,6 +112,9 @@ enum status job_plan(struct job *job);
 
 /* The same with the gaps of the support closed by a disc of `gap` pixels. */
 enum status job_clean(struct job *job, uint64_t gap);
+
+/* Posts in the support's place, with the rings planned afresh. */
+enum status job_posts(struct job *job, uint64_t radius);
 
 /* A plan to hold the stored support against: job->planned is made, support and rings stay as stored. */
 enum status job_plan_beside(struct job *job);
