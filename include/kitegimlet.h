@@ -79,8 +79,8 @@ kg_answer kg_clean(uint64_t w, uint64_t h, uint64_t n, uint32_t pitch, uint32_t 
  * within `radius` of one of these posts. Of what remains the first pixel by row and then column becomes a post, and takes away itself and what
  * grows from it alone, over remaining pixels within the radius; and so on until none remains. Within the radius is at a squared distance of at
  * most radius * radius / (pitch * pitch) rounded down, as near is for an overhang.
- * So each left pixel is a post or is joined to one, and each post above layer 0 stands on a post or on part. With radius 0 the posts are the
- * support of kg_plan; with a larger one kg_check takes a pixel that the radius alone holds for one that hangs (11).
+ * So each left pixel is a post or is joined to one, and each post above layer 0 stands on a post or on part. With a radius below
+ * the pitch the posts are the support of kg_plan; with a larger one kg_check takes a pixel that the radius alone holds for one that hangs (11).
  * Posts must have the part's length; what they held does not matter, and all of them is written. Refusals 1 to 3, 20 (a radius over 10,000, or
  * radius / pitch over 32), 4, 5 (the length of posts), 7 with its place. */
 kg_answer kg_posts(uint64_t w, uint64_t h, uint64_t n, uint32_t pitch, uint32_t overhang, uint32_t radius,

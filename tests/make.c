@@ -374,7 +374,8 @@ static void make_largest(struct dice *d, struct trial *t, uint64_t which)
 static enum call some_call(struct dice *d)
 {
     static const enum call calls[] = {REACH, PLAN, PLAN, PLAN, PLAN, CLEAN, CLEAN, CLEAN, CLEAN, POSTS, POSTS, POSTS, POSTS,
-                                      CHECK, CHECK, CHECK, CHECK, CHECK, CHECK, READ, READ, PART, SUPPORT, COPY_RINGS, COPY_RINGS, WRITE, WRITE, WRITE};
+                                      CHECK, CHECK, CHECK, CHECK, CHECK, CHECK, READ, READ, PART, SUPPORT, COPY_RINGS, COPY_RINGS,
+                                      WRITE, WRITE, WRITE};
     return calls[below(d, sizeof calls / sizeof *calls)];
 }
 
