@@ -91,29 +91,38 @@ int small_posts(struct dice *d, struct trial *t, uint64_t *number)
 
 /* ---- Tables ---- */
 
-/* The number-th full layer over nothing, a little larger than the disc, with radii of whole pixels and between them: held by new posts alone,
- * or all but its middle, where a pixel of the layer above is and its post goes down. */
+enum { NEW_POSTS, FROM_ABOVE, WITH_HOLES, HALF_EMPTY, TABLES };
+
+/* A full layer; all of it but the middle; all but one pixel in twenty; one pixel in two. */
+static int in_table(struct dice *d, uint64_t kind, int in_middle)
+{
+    return kind == NEW_POSTS ? 1 : kind == FROM_ABOVE ? !in_middle : kind == WITH_HOLES ? !chance(d, 20) : chance(d, 2);
+}
+
+/* The number-th layer over nothing, with radii of whole pixels and between them: a little larger than the disc, held by new posts alone or also by
+ * that of a pixel above its middle; or as wide as an image can be and a little higher than the disc, so that discs lie across words. */
 int table_case(struct dice *d, struct trial *t, uint64_t *number)
 {
     static const unsigned reaches[] = {0, 1, 2, 3, 5, 10, 31, 32}, between[] = {0, 42, 99};
-    enum { REACHES = sizeof reaches / sizeof *reaches, ALL = 2 * REACHES * (sizeof between / sizeof *between) };
-    uint64_t k = *number / 2, from_above = *number % 2, middle;
+    enum { REACHES = sizeof reaches / sizeof *reaches, ALL = TABLES * REACHES * (sizeof between / sizeof *between) };
+    uint64_t k = *number / TABLES, kind = *number % TABLES, middle;
     if (*number >= ALL) {
         *number -= ALL;
         return 0;
     }
     t->call = POSTS;
     middle = reaches[k % REACHES] + 1;
-    t->w = t->h = 2 * middle + 1;
-    t->n = 2 + from_above;
+    t->w = kind < WITH_HOLES ? 2 * middle + 1 : 256;
+    t->h = kind < WITH_HOLES ? t->w : middle + 2;
+    t->n = kind == FROM_ABOVE ? 3 : 2;
     t->pitch = 100;
     t->radius = 100 * reaches[k % REACHES] + between[k / REACHES];
     buffer_make(t, PART_STACK, stack_bytes_of(t));
     for (uint64_t row = 0; row < t->h; row++)
         for (uint64_t column = 0; column < t->w; column++) {
             int in_middle = row == middle && column == middle;
-            set_pixel(t->lent[PART_STACK].bytes, t->w, t->h, 1, row, column, !from_above || !in_middle);
-            if (from_above) set_pixel(t->lent[PART_STACK].bytes, t->w, t->h, 2, row, column, in_middle);
+            set_pixel(t->lent[PART_STACK].bytes, t->w, t->h, 1, row, column, in_table(d, kind, in_middle));
+            if (kind == FROM_ABOVE) set_pixel(t->lent[PART_STACK].bytes, t->w, t->h, 2, row, column, in_middle);
         }
     lend_filled(d, t);
     return 1;
