@@ -18,7 +18,7 @@ use Rattle.rules.specs.Judging.{overlap, badRing, unheld, verdictOf}
 use Rattle.rules.specs.Jobs.{Job, headEnd, partEnd, supportEnd, settingsIn, storedIn, partIn, supportIn, layoutOf, fileLength}
 use Rattle.rules.specs.Calls.{saysRefusal, tellRow, refused, refusedIn}
 use Rattle.rules.specs.Calls.{saysReached, saysPlanned, saysJudged, saysRead, saysCopied, saysWritten, reachCases, reachAnswer, settingCases, lengthCases}
-use Rattle.rules.specs.Calls.{cleanCases, cleanRefusal, cleanAnswer}
+use Rattle.rules.specs.Calls.{cleanCases, cleanRefusal, cleanAnswer, postsCases, postsRefusal, postsAnswer}
 use Rattle.rules.specs.Calls.{stackCases, bothCases, planCases, planRefusal, planAnswer, judgeCases, judgeAnswer, sectionCases, readCases, readRefusal}
 use Rattle.rules.specs.Calls.{readAnswer, partAnswer, supportAnswer, copyCases, copyAnswer, writeCases, writeRefusal, writeAnswer}
 use Rattle.rules.specs.Demands.{FirstAt}
@@ -43,7 +43,7 @@ use Rattle.laws.specs.Padding.{padding-first, row-told, refused-number, refused
 use Rattle.laws.specs.Limits.{Ranged, ranged, settable-out, stack-most}
 use Rattle.laws.specs.Demand1.{copied-as-read, written-as-both, told-overlap, told-bad-ring, told-unheld}
 use Rattle.laws.specs.Judgements.{Verdict, accepted, overlapping, ring-is-bad, part-hangs, support-hangs, verdict-is}
-use Rattle.laws.specs.StackTables.{Padded, stack-seven, both-seven, both-eight, clean-seven, judge-exactly}
+use Rattle.laws.specs.StackTables.{Padded, stack-seven, both-seven, both-eight, clean-seven, posts-seven, judge-exactly}
 use Rattle.laws.specs.JobFiles.{accepted-exactly, rooms, read-seven, read-eight, stores, writeRoom, writable-exactly, longest-job}
 use Rattle.laws.specs.Offsets.{longest-file}
 use Rattle.laws.specs.ReportLaws.{take-all}
@@ -168,7 +168,7 @@ refusal-seen (at-pixel k at h p hi hr hc) =
 
 -- a table's numbers are 7, 8 or without a place
 abbrev tabled : ℕ → Bool
-tabled k = leb k 18 && (eqb k 7 || eqb k 8 || eqb (placeParts k) 0)
+tabled k = leb k 20 && (eqb k 7 || eqb k 8 || eqb (placeParts k) 0)
 
 unfoldable ordinary : List Case → Bool
 ordinary [] = true
@@ -192,7 +192,7 @@ says-row (InRow j at) k i r e =
     let y : at .row ≡ r = cc in
     rw (← a, ← x, ← y)
 
-row-fits : (s : Settings) (l : List ℕ) (k : ℕ) → k ≤ 18 → placeParts k ≡ 2 → Padded s l → Fits (tellRow (s .h) k (firstPadded s l))
+row-fits : (s : Settings) (l : List ℕ) (k : ℕ) → k ≤ 20 → placeParts k ≡ 2 → Padded s l → Fits (tellRow (s .h) k (firstPadded s l))
 row-fits s l k h p v =
     let g = ranged s (v .settings) in
     let nh = g .n-high in
@@ -218,7 +218,7 @@ module _ (cs : List Case) (o : ordinary cs ≡ true) (s : Settings) (part sup : 
   refused-fits : (k : ℕ) → refusal cs ≡ suc k → Fits (refused s part sup (suc k))
   refused-fits k e =
       let m = is-ordinary cs k o e in
-      let h : suc k ≤ 18 = leb-true (suc k) 18 (and-l (leb (suc k) 18) (eqb (suc k) 7 || eqb (suc k) 8 || eqb (placeParts (suc k)) 0) m) in
+      let h : suc k ≤ 20 = leb-true (suc k) 20 (and-l (leb (suc k) 20) (eqb (suc k) 7 || eqb (suc k) 8 || eqb (placeParts (suc k)) 0) m) in
       split (eqb (suc k) 7)
       (λ t.
       let z : suc k ≡ 7 = eqb-true (suc k) 7 t in
@@ -228,7 +228,7 @@ module _ (cs : List Case) (o : ordinary cs ≡ true) (s : Settings) (part sup : 
       let z : suc k ≡ 8 = eqb-true (suc k) 8 u in
       rw (refused-eight s part sup (suc k) z) (row-fits s sup (suc k) h (ap placeParts z ∙ eight-parts) (p8 (e ∙ z))))
       (λ u.
-      let q : eqb (placeParts (suc k)) 0 ≡ true = third (eqb (suc k) 7) (eqb (suc k) 8) _ t u (and-r (leb (suc k) 18) (eqb (suc k) 7 || eqb (suc k) 8 || eqb (placeParts (suc k)) 0) m) in
+      let q : eqb (placeParts (suc k)) 0 ≡ true = third (eqb (suc k) 7) (eqb (suc k) 8) _ t u (and-r (leb (suc k) 20) (eqb (suc k) 7 || eqb (suc k) 8 || eqb (placeParts (suc k)) 0) m) in
       rw (refused-alone s part sup (suc k) (eqb-false (suc k) 7 t) (eqb-false (suc k) 8 u)) (alone (suc k) (omega arith) (eqb-true _ _ q))))
 
   refused-seen : (k : ℕ) → refusal cs ≡ suc k → (number (packRefusal (refused s part sup (suc k))) ∷ seesParts (packRefusal (refused s part sup (suc k)))) ≡ saysRefusal (refused s part sup (suc k))
@@ -263,7 +263,7 @@ module _ (cs : List Case) (o : ordinary cs ≡ true) (s : Settings) (part sup : 
       go zero e = value-back v (h e)
       go (suc x) e = rw (not-zero x e) (refused-seen x e)
 
--- Reach, plan, clean, write, copy rings ------------------------------------------------------------------------------------------------
+-- Reach, plan, clean, posts, write, copy rings ------------------------------------------------------------------------------------------------
 
 -- an answer of another kind, made of this one
 through : {A B : Type 0} (f : A → B) (x : ℕ) (fine : A) (bad : ℕ → A) → f (answer x fine bad) ≡ answer x (f fine) (λ k. f (bad k))
@@ -312,6 +312,13 @@ clean-seen s c part a b d =
     ap seesPlace (through packPlanned (refusal (cleanCases s c part a b d)) Done _)
     ∙ place-seen (cleanCases s c part a b d) refl s part [] (λ e. clean-seven s c part a b d e) (λ e. absurd (never 7 (cleanCases s c part a b d) refl e))
     ∙ sym (through saysPlanned (refusal (cleanCases s c part a b d)) Done _)
+
+pub posts-seen : (s : Settings) (r : Micrometres) (part : List ℕ) (a : ℕ) → seesPlace (packPlanned (postsAnswer s r part a)) ≡ saysPlanned (postsAnswer s r part a)
+unfolding postsAnswer postsRefusal postsCases settingCases reachCases lacks ordinary placeParts
+posts-seen s r part a =
+    ap seesPlace (through packPlanned (refusal (postsCases s r part a)) Done _)
+    ∙ place-seen (postsCases s r part a) refl s part [] (λ e. posts-seven s r part a e) (λ e. absurd (never 7 (postsCases s r part a) refl e))
+    ∙ sym (through saysPlanned (refusal (postsCases s r part a)) Done _)
 
 -- 7 and 8 of copying are those of reading
 module _ (f : List ℕ) (room : ℕ) where

@@ -5,9 +5,10 @@ use mathlib.Core.List.{List}
 use Prim.Native.Nat.{ℕ}
 use lib.ListN.{length}
 use Rattle.rules.specs.Jobs.{Job}
-use Rattle.rules.specs.Calls.{reachAnswer, planAnswer, planSupport, planRings, cleanAnswer, cleanSupport, cleanRings, cleanCleaned, judgeAnswer, readAnswer}
+use Rattle.rules.specs.Calls.{reachAnswer, planAnswer, planSupport, planRings, cleanAnswer, cleanSupport, cleanRings, cleanCleaned, postsAnswer, postsPosts, judgeAnswer, readAnswer}
 use Rattle.rules.specs.Calls.{copyAnswer, copyRings, writeAnswer, writeTo}
-use Rattle.rules.specs.Outcomes.{Reaches, Plans, Cleans, Judges, Copies, Writes}
+use Rattle.rules.specs.Outcomes.{Reaches, Plans, Cleans, Posts, Judges, Copies, Writes}
+use Rattle.rules.specs.declared.Micrometres.{Micrometres}
 use Rattle.rules.specs.declared.Pixels.{Pixels}
 use Rattle.rules.specs.declared.Settings.{Settings}
 use Rattle.rules.specs.declared.Reached.{Reached}
@@ -81,6 +82,20 @@ pub clean-packed : (s t : Settings) (c : Pixels) (part sup ring clean : List ℕ
     r ≡ packPlanned a → KgCleans t c part sup ring clean r sup′ ring′ clean′
 clean-packed s t c part sup ring clean r a sup′ ring′ clean′ same x e =
     let k : KgCleans s c part sup ring clean r sup′ ring′ clean′ = record { answer = e ∙ ap packPlanned (x .answer); support = x .support; rings = x .rings; cleaned = x .cleaned } in
+    rw same at k
+
+-- kg_posts: the posts are lent ----------------------------------------------------------------------------------------------------
+
+pub record KgPosts (s : Settings) (radius : Micrometres) (part old : List ℕ) (r : ℕ) (new : List ℕ) : Type 0 where
+  pub answer : r ≡ packPlanned (postsAnswer s radius part (length old))
+  pub posts : new ≡ postsPosts s radius part old
+
+pub kg-posts-settled : (s : Settings) (radius : Micrometres) (part old : List ℕ) (r q : ℕ) (a b : List ℕ) → KgPosts s radius part old r a → KgPosts s radius part old q b → (r ≡ q) × (a ≡ b)
+kg-posts-settled s radius part old r q a b x y = (x .answer ∙ sym (y .answer), x .posts ∙ sym (y .posts))
+
+pub posts-packed : (s t : Settings) (radius : Micrometres) (part old : List ℕ) (r : ℕ) (a : Planned) (new : List ℕ) → s ≡ t → Posts s radius part old a new → r ≡ packPlanned a → KgPosts t radius part old r new
+posts-packed s t radius part old r a new same x e =
+    let k : KgPosts s radius part old r new = record { answer = e ∙ ap packPlanned (x .answer); posts = x .posts } in
     rw same at k
 
 -- kg_read: room for what is told is lent ----------------------------------------------------------------------------------------

@@ -7,11 +7,12 @@ use job::write;
 use judge::judge;
 use limits::reach;
 use plan::plan;
+use posts::posts;
 use rules::Micrometres;
 use rules::Pixels;
 use rules::ReadJob;
-ghost use Rattle.answers.specs.Packed.{settingsOf, px, jobOf};
-ghost use Rattle.kitegimlet.specs.Outcomes.{KgReaches, KgPlans, KgCleans, KgJudges, KgReads, KgCopies, KgWrites, KgHandsPart, KgHandsSupport};
+ghost use Rattle.answers.specs.Packed.{settingsOf, um, px, jobOf};
+ghost use Rattle.kitegimlet.specs.Outcomes.{KgReaches, KgPlans, KgCleans, KgPosts, KgJudges, KgReads, KgCopies, KgWrites, KgHandsPart, KgHandsSupport};
 
 // The reach of an overhang.
 #[no_mangle]
@@ -57,6 +58,24 @@ pub extern "C" fn kg_clean(
 {
     let s = answers::settings(w, h, n, pitch, overhang);
     answers::pack_planned(clean(s, Pixels(gap), part, support, rings, cleaned))
+}
+
+// Posts that hold a part from below.
+#[no_mangle]
+pub extern "C" fn kg_posts(
+    w: usize,
+    h: usize,
+    n: usize,
+    pitch: u32,
+    overhang: u32,
+    radius: u32,
+    part: &[u8],
+    out: &mut [u8],
+) -> usize
+    ensures { λ r. ⌜ KgPosts (settingsOf w h n pitch overhang) (um radius) (now (part .entry)) (now (out .entry)) r (now (out .exit)) ⌝ }
+{
+    let s = answers::settings(w, h, n, pitch, overhang);
+    answers::pack_planned(posts(s, Micrometres(radius), part, out))
 }
 
 // Judges support that anyone made.
