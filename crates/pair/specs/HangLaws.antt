@@ -96,6 +96,10 @@ excused-by w h n z en got ring was now gots E = record {
       E .inner (p / w * rowBytes w * 8 + p % w) (rw en room) ∙ ap (λ (b : Bool). bitOf was (p / w * rowBytes w * 8 + p % w) && not b) (packed-seen w h n p z got en lp ∙ gots p lp);
 }
 
+-- by rings that are the same
+pub excused-rings : (w h : ℕ) (ring ring' was now : List ℕ) → ring ≡ ring' → Excused w h ring was now → Excused w h ring' was now
+excused-rings w h ring ring' was now e X = rw e at X
+
 -- the support of the lower layer
 module _ (w h q : ℕ) (z : Sizes w h) (low up above out out' ring : List ℕ) (e : ring ≡ pairRings w h q (packed w low) (packed w up))
     (ap' : (p : ℕ) → p < h * w → packed w above p ≡ true → packed w up p ≡ true → ⊥)

@@ -6,3 +6,4 @@ pub mod FoundLaws
 pub mod ExcuseLaws
 pub mod PairLaws
 pub mod HangLaws
+pub mod BareLaws

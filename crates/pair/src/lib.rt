@@ -1,4 +1,5 @@
 // One pair of layers: its rings, and the support of its lower layer.
+pub mod bare;
 pub mod rows;
 
 use rules::Bound;
@@ -29,6 +30,16 @@ fn zero(ring: &mut [u16])
     }
 }
 
+// Rings that are wanted begin as 0; others are 0 already.
+fn begin(wanted: bool, ring: &mut [u16])
+    requires { ⌜ (wanted ≡ false → (p : ℕ) → p < length (now ring) → getD (now ring) p 0 ≡ 0) ⌝ }
+    ensures { λ _. ⌜ ((p : ℕ) → p < length (now (ring .entry)) → getD (now (ring .exit)) p 0 ≡ 0) ⌝ }
+{
+    if wanted {
+        zero(ring);
+    }
+}
+
 // The support of a layer into `out` where every pixel that hangs needs it, with the support of the layer above; true where a pixel hangs:
 // one of the upper layer with none of the lower one below it.
 fn support(up: &[u8], low: &[u8], above: &[u8], out: &mut [u8]) -> bool
@@ -46,7 +57,7 @@ fn support(up: &[u8], low: &[u8], above: &[u8], out: &mut [u8]) -> bool
     all != 0
 }
 
-// The rings of a pair with shadow; its excused pixels are taken off the support.
+// The rings of a pair with shadow; its excused pixels are taken off the support. Rings that are not wanted are 0 again afterwards.
 fn hanging(
     low: &[u8],
     up: &[u8],
@@ -65,12 +76,13 @@ fn hanging(
     q: Bound,
     half: &[usize],
     ones: &[u16],
+    wanted: bool,
 )
     requires { ⌜ Sizes w h × (n ≡ rowBytes w) × (q .0 ≤ mostBound) × Halves (q .0) (now half) × Ones (now ones) ⌝ }
     requires { ⌜ Clean w h (now low) × Clean w h (now up) × (length (now out) ≡ h * rowBytes w) × (length (now ring) ≡ h * w) × ((p : ℕ) → p < h * w → getD (now ring) p 0 ≡ 0) ⌝ }
     requires { ⌜ Spare w h (now left) (now got) (now front) (now next) (now seed) (now lower) (now ahead) ⌝ }
-    ensures { λ _. ⌜ now (ring .exit) ≡ pairRings w h (q .0) (packed w (now (low .entry))) (packed w (now (up .entry))) ⌝ }
-    ensures { λ _. ⌜ Excused w h (now (ring .exit)) (now (out .entry)) (now (out .exit)) ⌝ }
+    ensures { λ _. ⌜ (wanted ≡ true → now (ring .exit) ≡ pairRings w h (q .0) (packed w (now (low .entry))) (packed w (now (up .entry)))) × (wanted ≡ false → (p : ℕ) → p < h * w → getD (now (ring .exit)) p 0 ≡ 0) ⌝ }
+    ensures { λ _. ⌜ Excused w h (pairRings w h (q .0) (packed w (now (low .entry))) (packed w (now (up .entry)))) (now (out .entry)) (now (out .exit)) ⌝ }
     ensures { λ _. ⌜ Spare w h (now (left .exit)) (now (got .exit)) (now (front .exit)) (now (next .exit)) (now (seed .exit)) (now (lower .exit)) (now (ahead .exit)) ⌝ }
 {
     crate::rows::find(low, up, left, seed, ahead, w, h, n);
@@ -92,11 +104,13 @@ fn hanging(
         ones,
     );
     crate::rows::excuse(out, got, ahead, w, h, n);
+    crate::bare::unless(wanted, ring, got, ahead, w, h);
     crate::rows::empty(left, got, front, next, ahead, w, h);
 }
 
 // The rings of a pair, and the support of its lower layer; above is that of its upper layer, which has no pixel of that layer. half has the half-widths of the
-// disc, and ones the bits of every byte as numbers. The other planes are scratch, empty between pairs.
+// disc, and ones the bits of every byte as numbers. The other planes are scratch, empty between pairs. Where rings are not wanted, ring is scratch too, 0 between
+// pairs.
 pub fn layer(
     low: &[u8],
     up: &[u8],
@@ -116,16 +130,18 @@ pub fn layer(
     q: Bound,
     half: &[usize],
     ones: &[u16],
+    wanted: bool,
 )
     requires { ⌜ Sizes w h × (n ≡ rowBytes w) × (q .0 ≤ mostBound) × Halves (q .0) (now half) × Ones (now ones) ⌝ }
     requires { ⌜ Clean w h (now low) × Clean w h (now up) × Clean w h (now above) × (length (now out) ≡ h * rowBytes w) × (length (now ring) ≡ h * w) ⌝ }
     requires { ⌜ ((p : ℕ) → p < h * w → packed w (now above) p ≡ true → packed w (now up) p ≡ true → ⊥) ⌝ }
     requires { ⌜ Spare w h (now left) (now got) (now front) (now next) (now seed) (now lower) (now ahead) ⌝ }
-    ensures { λ _. ⌜ now (ring .exit) ≡ pairRings w h (q .0) (packed w (now (low .entry))) (packed w (now (up .entry))) ⌝ }
+    requires { ⌜ (wanted ≡ false → (p : ℕ) → p < h * w → getD (now ring) p 0 ≡ 0) ⌝ }
+    ensures { λ _. ⌜ (wanted ≡ true → now (ring .exit) ≡ pairRings w h (q .0) (packed w (now (low .entry))) (packed w (now (up .entry)))) × (wanted ≡ false → (p : ℕ) → p < h * w → getD (now (ring .exit)) p 0 ≡ 0) ⌝ }
     ensures { λ _. ⌜ Packs w h (pairSupport w h (q .0) (packed w (now (low .entry))) (packed w (now (up .entry))) (packed w (now (above .entry)))) (now (out .exit)) ⌝ }
     ensures { λ _. ⌜ Spare w h (now (left .exit)) (now (got .exit)) (now (front .exit)) (now (next .exit)) (now (seed .exit)) (now (lower .exit)) (now (ahead .exit)) ⌝ }
 {
-    zero(ring);
+    begin(wanted, ring);
     if !support(up, low, above, out) {
         return;
     }
@@ -147,5 +163,6 @@ pub fn layer(
         q,
         half,
         ones,
+        wanted,
     );
 }
