@@ -1,6 +1,6 @@
 -- Laws of planning a stack: where it begins, one layer more, and where it ends.
 use mathlib.Core.Path.{_≡_, refl, sym, ap, subst, _∙_}
-use mathlib.Core.Bool.{Bool, true, false, not, _&&_, _||_}
+use mathlib.Core.Bool.{Bool, true, false, not, _&&_, _||_, cond}
 use mathlib.Core.List.{List}
 use Prim.Native.Nat.{ℕ, suc, _+_, _-_, _*_, _≤_, _<_}
 use native.Mathlib.Nat.{mul-assoc, zero-mul, mul-le-mul}
@@ -9,8 +9,8 @@ use native.Mathlib.Decide.{decLt, ℕ-discrete}
 use native.Mathlib.Omega.{arith}
 use borrow.Rule.Slice.PartMut.{midOf, putMid}
 use lib.Dec.{ltb, eqb}
-use lib.ListN.{length, getD, set, take, drop, List·getD-eq-default, replicate, length-replicate}
-use lib.Seq.{ext-getD, getD-drop, getD-set-same, getD-set-other}
+use lib.ListN.{length, getD, set, take, drop, List·getD-eq-default, replicate, length-replicate, length-take, length-drop}
+use lib.Seq.{ext-getD, getD-take, getD-drop, getD-set-same, getD-set-other}
 use Rattle.rules.specs.Images.{paddingSet, Stack, rowBytes, pixel, bytesOf, ringAt}
 use Rattle.rules.specs.Planning.{shadow, ringPlane, rings, excused, planned, supportUnder, topOf, empty, plannedRings, plannedBytes}
 use Rattle.rules.specs.Tools.{joinedUp}
@@ -20,12 +20,12 @@ use Rattle.laws.specs.Tests.{length-each, clash}
 use Rattle.image.specs.Packed.{plane-clean, plane-at, plane-long, plane-pixel, plane-bytes, stack-plane}
 use Rattle.image.specs.Planes.{row-fits, row-next}
 use Rattle.image.specs.Rows.{Clean, Packs, packed, planeBytes, plane, OnlyPlane}
-use Rattle.image.specs.Stretches.{put-plane, put-only}
+use Rattle.image.specs.Stretches.{mid-put, put-plane, put-only}
 use Rattle.planes.specs.PlaneLaws.{zero-bits, zero-ready}
 use Rattle.pair.specs.Found.{Empty, Spare}
 use Rattle.pair.specs.PairLaws.{rings-same, support-same, packs-same}
 use Rattle.pair.specs.Pairs.{pairRings, unexcused, pairSupport}
-use Rattle.plan.specs.Stacks.{From, plannedStack, Down}
+use Rattle.plan.specs.Stacks.{Bare, From, plannedStack, Down}
 
 -- Lists that agree from some place on -----------------------------------------------------------------------------------
 
@@ -34,6 +34,13 @@ from-end a xs ys lx ly x h = List·getD-eq-default xs 0 (omega arith) ∙ sym (L
 
 pub from-all : (xs ys : List ℕ) → length xs ≡ length ys → From 0 xs ys → xs ≡ ys
 from-all xs ys e f = ext-getD 0 xs ys e (λ i h. f i (omega arith))
+
+-- a length that depends on whether rings are kept
+kept : (keep : Bool) (a b : ℕ) {x : ℕ} → keep ≡ true → x ≡ cond keep a b → x ≡ a
+kept keep a b k e = e ∙ ap (λ (y : Bool). cond y a b) k
+
+shared : (keep : Bool) (a b : ℕ) {x : ℕ} → keep ≡ false → x ≡ cond keep a b → x ≡ b
+shared keep a b k e = e ∙ ap (λ (y : Bool). cond y a b) k
 
 -- one place more of a copy
 pub put-more : (to from : List ℕ) (i : ℕ) → i < length to → ((k : ℕ) → k < i → getD to k 0 ≡ getD from k 0) → (k : ℕ) → k < i + 1 → getD (set to i (getD from i 0)) k 0 ≡ getD from k 0
@@ -117,7 +124,7 @@ module _ (w h n q : ℕ) (part : List ℕ) where
 
 -- Going down ------------------------------------------------------------------------------------------------------------
 
-module _ (w h n q : ℕ) (lw : 0 < w) (part : List ℕ) (long : length part ≡ n * h * rowBytes w) where
+module _ (keep : Bool) (w h n q : ℕ) (lw : 0 < w) (part : List ℕ) (long : length part ≡ n * h * rowBytes w) where
   layer-pixel : (i p : ℕ) → p < h * w → packed w (plane (h * rowBytes w) i part) p ≡ pixel w h part i p
   layer-pixel i p lp = plane-pixel w h n part long lw i p lp
 
@@ -130,10 +137,11 @@ module _ (w h n q : ℕ) (lw : 0 < w) (part : List ℕ) (long : length part ≡ 
   planned-plane i s li small P = plane-bytes w h (plannedStack w h n q part i) s (P .clean) small (P .pixels) ∙ sym (layer-bytes i li)
 
   -- the top layer has no support
-  pub down-start : (support support' rings above : List ℕ) → 0 < n → length support ≡ n * h * rowBytes w → length rings ≡ (n - 1) * (h * w)
+  pub down-start : (support support' rings above : List ℕ) → 0 < n → length support ≡ n * h * rowBytes w → length rings ≡ cond keep ((n - 1) * (h * w)) (h * w)
+      → (keep ≡ false → Bare (h * w) rings)
       → OnlyPlane (h * rowBytes w) (n - 1) support' support → plane (h * rowBytes w) (n - 1) support' ≡ above
-      → ((b : ℕ) → getD above b 0 < 256) → Packs w h (λ p. false) above → Down w h n q (n - 1) part support' rings above
-  down-start support support' rings above ln ls lr o e small a =
+      → ((b : ℕ) → getD above b 0 < 256) → Packs w h (λ p. false) above → Down keep w h n q (n - 1) part support' rings above
+  down-start support support' rings above ln ls lr bare o e small a =
       let size : ℕ = h * rowBytes w in
       let A : Packs w h (plannedStack w h n q part (n - 1)) above = packs-same w h lw (λ p. false) (plannedStack w h n q part (n - 1)) above (λ p lp. sym (support-top w h n q part p ln)) a in
       record {
@@ -141,7 +149,9 @@ module _ (w h n q : ℕ) (lw : 0 < w) (part : List ℕ) (long : length part ≡ 
             (from-end ((n - 1 + 1) * size) support (plannedBytes w h n (λ k. q) part) (omega (arith, top, mul-assoc n h (rowBytes w)))
             (omega (arith, top, length-bytes w h n q part, mul-assoc n h (rowBytes w))))
             (e ∙ planned-plane (n - 1) above (omega arith) small A);
-        rings-done = from-end ((n - 1) * (h * w)) rings (plannedRings w h n (λ k. q) part) (omega arith) (omega (arith, length-rings w h n q part));
+        rings-done = λ k. from-end ((n - 1) * (h * w)) rings (plannedRings w h n (λ k. q) part) (omega (arith, kept keep ((n - 1) * (h * w)) (h * w) k lr))
+            (omega (arith, length-rings w h n q part));
+        bare = bare;
         above-is = A;
       }
     where
@@ -149,7 +159,7 @@ module _ (w h n q : ℕ) (lw : 0 < w) (part : List ℕ) (long : length part ≡ 
       top = ap (λ (x : ℕ). x * (h * rowBytes w)) (omega arith)
 
   -- one layer more
-  module _ (i : ℕ) (support support' rings rings' above above' : List ℕ) (li : suc i < n) (D : Down w h n q (i + 1) part support rings above) where
+  module _ (i : ℕ) (support support' rings rings' above above' : List ℕ) (li : suc i < n) (D : Down keep w h n q (i + 1) part support rings above) where
     layer-support : (p : ℕ) → p < h * w
         → pairSupport w h q (packed w (plane (h * rowBytes w) i part)) (packed w (plane (h * rowBytes w) (suc i) part)) (packed w above) p ≡ plannedStack w h n q part i p
     layer-support p lp =
@@ -158,28 +168,35 @@ module _ (w h n q : ℕ) (lw : 0 < w) (part : List ℕ) (long : length part ≡ 
         (λ o lo. D .above-is .pixels o lo ∙ ap (λ (x : ℕ). plannedStack w h n q part x o) (add-one i)) p lp
         ∙ sym (support-step w h n q part i p li lp)
 
-    pub down-more : OnlyPlane (h * rowBytes w) i support' support → OnlyPlane (h * w) i rings' rings
-        → plane (h * rowBytes w) i support' ≡ above'
-        → plane (h * w) i rings' ≡ pairRings w h q (packed w (plane (h * rowBytes w) i part)) (packed w (plane (h * rowBytes w) (suc i) part))
+    pub down-more : OnlyPlane (h * rowBytes w) i support' support → plane (h * rowBytes w) i support' ≡ above'
+        → (keep ≡ true → OnlyPlane (h * w) i rings' rings
+        × (plane (h * w) i rings' ≡ pairRings w h q (packed w (plane (h * rowBytes w) i part)) (packed w (plane (h * rowBytes w) (suc i) part))))
+        → (keep ≡ false → Bare (h * w) rings')
         → ((b : ℕ) → getD above' b 0 < 256)
         → Packs w h (pairSupport w h q (packed w (plane (h * rowBytes w) i part)) (packed w (plane (h * rowBytes w) (suc i) part)) (packed w above)) above'
-        → Down w h n q i part support' rings' above'
-    down-more os or es er small a =
+        → Down keep w h n q i part support' rings' above'
+    down-more os es r bare small a =
         let A : Packs w h (plannedStack w h n q part i) above' = packs-same w h lw _ (plannedStack w h n q part i) above' layer-support a in
         record {
           support-done = from-more (h * rowBytes w) i support' support (plannedBytes w h n (λ k. q) part) os (D .support-done) (es ∙ planned-plane i above' (omega arith) small A);
-          rings-done = from-more (h * w) i rings' rings (plannedRings w h n (λ k. q) part) or (D .rings-done)
-              (er ∙ rings-same w h q (packed w (plane (h * rowBytes w) i part)) (pixel w h part i) (packed w (plane (h * rowBytes w) (suc i) part)) (pixel w h part (suc i)) (layer-pixel i)
+          rings-done = λ k. from-more (h * w) i rings' rings (plannedRings w h n (λ k. q) part) (r k .0) (D .rings-done k)
+              (r k .1 ∙ rings-same w h q (packed w (plane (h * rowBytes w) i part)) (pixel w h part i) (packed w (plane (h * rowBytes w) (suc i) part)) (pixel w h part (suc i)) (layer-pixel i)
               (layer-pixel (suc i)) ∙ sym (rings-plane w h n q part i li));
+          bare = bare;
           above-is = A;
         }
 
   -- the lowest layer is reached
-  pub down-end : (support rings above : List ℕ) → length support ≡ n * h * rowBytes w → length rings ≡ (n - 1) * (h * w) → Down w h n q 0 part support rings above
-      → (support ≡ plannedBytes w h n (λ k. q) part) × (rings ≡ plannedRings w h n (λ k. q) part)
+  pub down-end : (support rings above : List ℕ) → length support ≡ n * h * rowBytes w → length rings ≡ cond keep ((n - 1) * (h * w)) (h * w)
+      → Down keep w h n q 0 part support rings above
+      → (support ≡ plannedBytes w h n (λ k. q) part) × ((keep ≡ true → rings ≡ plannedRings w h n (λ k. q) part) × (keep ≡ false → Bare (h * w) rings))
   down-end support rings above ls lr D = (
     from-all support (plannedBytes w h n (λ k. q) part) (ls ∙ sym (length-bytes w h n q part)) (λ x l. D .support-done x (omega (arith, zero-mul (h * rowBytes w)))),
-    from-all rings (plannedRings w h n (λ k. q) part) (lr ∙ sym (length-rings w h n q part)) (λ x l. D .rings-done x (omega (arith, zero-mul (h * w)))),
+    (
+      λ k. from-all rings (plannedRings w h n (λ k. q) part) (kept keep ((n - 1) * (h * w)) (h * w) k lr ∙ sym (length-rings w h n q part))
+          (λ x l. D .rings-done k x (omega (arith, zero-mul (h * w)))),
+      D .bare,
+    ),
   )
 
 -- The stretches of a layer ------------------------------------------------------------------------------------------------
@@ -193,8 +210,9 @@ up-room w h n size i len es el li = omega (arith, row-next i size, layer-room w 
 pub area-max : (w h : ℕ) → w ≤ 256 → h ≤ 256 → h * w ≤ 65536
 area-max w h a b = mul-le-mul b a
 
-pub ring-room : (w h n area i len : ℕ) → area ≡ h * w → len ≡ (n - 1) * (h * w) → suc i < n → i * area + area ≤ len
-ring-room w h n area i len es el li = omega (arith, row-fits i (n - 1) area (omega arith), ap (λ (x : ℕ). (n - 1) * x) es)
+pub ring-room : (keep : Bool) (w h n step i len : ℕ) → step ≡ cond keep (h * w) 0 → len ≡ cond keep ((n - 1) * (h * w)) (h * w) → suc i < n → i * step + h * w ≤ len
+ring-room true w h n step i len es el li = omega (arith, row-fits i (n - 1) (h * w) (omega arith), ap (λ (x : ℕ). i * x) es)
+ring-room false w h n step i len es el li = omega (arith, ap (λ (x : ℕ). i * x) es, native.Mathlib.Nat.mul-zero i)
 
 -- what is lent of the part: the stretches of layer i and of the layer above it, as the code cuts them
 abbrev pub cutLow : ℕ → ℕ → List ℕ → List ℕ
@@ -220,47 +238,85 @@ module _ (w h n size i : ℕ) (part : List ℕ) (es : size ≡ h * rowBytes w) (
   lent-up = subst (Clean w h) (sym (up-plane size i part ∙ ap (λ (x : ℕ). plane x (suc i) part) es)) (plane-clean w h n part long pad (suc i) li)
 
 -- the support of the layer above has none of its pixels
-pub above-apart : (w h n q size i : ℕ) → 0 < w → (part support rings above : List ℕ) → size ≡ h * rowBytes w → length part ≡ n * h * rowBytes w → suc i < n →
-    Down w h n q (i + 1) part support rings above
+pub above-apart : (keep : Bool) (w h n q size i : ℕ) → 0 < w → (part support rings above : List ℕ) → size ≡ h * rowBytes w → length part ≡ n * h * rowBytes w → suc i < n →
+    Down keep w h n q (i + 1) part support rings above
     → (p : ℕ) → p < h * w → packed w above p ≡ true → packed w (cutUp size i part) p ≡ true → ⊥
-above-apart w h n q size i lw part support rings above es long li D p lp a u =
+above-apart keep w h n q size i lw part support rings above es long li D p lp a u =
     let e : cutUp size i part ≡ plane (h * rowBytes w) (suc i) part = up-plane size i part ∙ ap (λ (x : ℕ). plane x (suc i) part) es in
     let on : pixel w h part (suc i) p ≡ true = sym (plane-pixel w h n part long lw (suc i) p lp) ∙ ap (λ (s : List ℕ). packed w s p) (sym e) ∙ u in
     let sup : plannedStack w h n q part (suc i) p ≡ true = ap (λ (x : ℕ). plannedStack w h n q part x p) (sym (add-one i)) ∙ sym (D .above-is .pixels p lp) ∙ a in
     clash on (planned-clear w h n (λ k. q) (pixel w h part) empty (ringAt w h (plannedRings w h n (λ k. q) part)) (suc i) p li sup)
 
-pub lent-rings : (w h n i : ℕ) (s : List ℕ) → length s ≡ (n - 1) * (h * w) → suc i < n → length (take (i * (h * w) + h * w - i * (h * w)) (drop (i * (h * w)) s)) ≡ h * w
-lent-rings w h n i s el li = ap length (low-plane (h * w) i s) ∙ plane-long (h * w) i (n - 1) s el (omega arith)
+-- the rings of a pair as they are lent, and as they are given back
+module _ (keep : Bool) (w h n step i : ℕ) (rings : List ℕ) (es : step ≡ cond keep (h * w) 0) (el : length rings ≡ cond keep ((n - 1) * (h * w)) (h * w)) (li : suc i < n) where
+  room : i * step + h * w ≤ length rings
+  room = ring-room keep w h n step i (length rings) es el li
+
+  pub lent-rings : length (take (i * step + h * w - i * step) (drop (i * step) rings)) ≡ h * w
+  lent-rings = simp (length-take, length-drop) (omega (arith, room))
+
+  first : keep ≡ false → i * step ≡ 0
+  first k = ap (λ (x : ℕ). i * x) (shared keep (h * w) 0 k es) ∙ native.Mathlib.Nat.mul-zero i
+
+  at : keep ≡ false → (xs : List ℕ) (p : ℕ) → p < h * w → getD (take (i * step + h * w - i * step) (drop (i * step) xs)) p 0 ≡ getD xs p 0
+  at k xs p lp =
+      let e : i * step + p ≡ p = omega (arith, first k) in
+      getD-take (i * step + h * w - i * step) (drop (i * step) xs) p 0 (omega arith) ∙ getD-drop (i * step) xs p 0 ∙ ap (λ (x : ℕ). getD xs x 0) e
+
+  pub lent-bare : (keep ≡ false → Bare (h * w) rings) → keep ≡ false → Bare (h * w) (take (i * step + h * w - i * step) (drop (i * step) rings))
+  lent-bare bare k p lp = at k rings p lp ∙ bare k p lp
+
+  abbrev Fits : ℕ → List ℕ → Type 0
+  Fits x rs = length rs ≡ length (midOf (i * x) (i * x + h * w - i * x) rings)
+
+  abbrev back : ℕ → List ℕ → List ℕ
+  back x rs = putMid (i * x) (i * x + h * w - i * x) rings rs
+
+  put-bare : (rs : List ℕ) → Fits step rs → (keep ≡ false → Bare (h * w) rs) → keep ≡ false → Bare (h * w) (back step rs)
+  put-bare rs long bare k p lp =
+      sym (at k (back step rs) p lp)
+      ∙ ap (λ (l : List ℕ). getD l p 0) (mid-put (i * step) (i * step + h * w - i * step) rings rs (omega (arith, room)) (long ∙ lent-rings ∙ omega arith))
+      ∙ bare k p lp
+
+  put-kept : keep ≡ true → (rs : List ℕ) → Fits step rs → OnlyPlane (h * w) i (back step rs) rings × (plane (h * w) i (back step rs) ≡ rs)
+  put-kept k rs =
+      let roomr : (i + 1) * (h * w) ≤ length rings = omega (arith, row-next i (h * w), row-fits i (n - 1) (h * w) (omega arith), kept keep ((n - 1) * (h * w)) (h * w) k el) in
+      subst (λ (x : ℕ). Fits x rs → OnlyPlane (h * w) i (back x rs) rings × (plane (h * w) i (back x rs) ≡ rs)) (sym (kept keep (h * w) 0 k es))
+      (λ long. (put-only (h * w) i rings rs roomr long, put-plane (h * w) i rings rs roomr long))
 
 pub lent-support : (w h n size i : ℕ) (s : List ℕ) → size ≡ h * rowBytes w → length s ≡ n * h * rowBytes w → i < n → length (cutLow size i s) ≡ h * rowBytes w
 lent-support w h n size i s es el li =
     ap length (low-plane size i s ∙ ap (λ (x : ℕ). plane x i s) es) ∙ plane-long (h * rowBytes w) i n s (el ∙ mul-assoc n h (rowBytes w)) li
 
 -- layer i, worked on in its stretches: above' is its support, and rs are its rings
-module _ (w h n q : ℕ) (lw : 0 < w) (part : List ℕ) (long : length part ≡ n * h * rowBytes w)
+module _ (keep : Bool) (w h n q : ℕ) (lw : 0 < w) (part : List ℕ) (long : length part ≡ n * h * rowBytes w)
     (i : ℕ) (support rings above above' rs : List ℕ) (li : suc i < n)
-    (ls : length support ≡ n * h * rowBytes w) (lr : length rings ≡ (n - 1) * (h * w)) (D : Down w h n q (i + 1) part support rings above) where
+    (ls : length support ≡ n * h * rowBytes w) (lr : length rings ≡ cond keep ((n - 1) * (h * w)) (h * w)) (D : Down keep w h n q (i + 1) part support rings above)
+    (step : ℕ) (et : step ≡ cond keep (h * w) 0) where
   abbrev LayerDone : ℕ → Type 0
   LayerDone size =
-      length above' ≡ length (midOf (i * size) (i * size + size - i * size) support) → length rs ≡ length (midOf (i * (h * w)) (i * (h * w) + h * w - i * (h * w)) rings)
-      → rs ≡ pairRings w h q (packed w (cutLow size i part)) (packed w (cutUp size i part)) → ((b : ℕ) → getD above' b 0 < 256)
+      length above' ≡ length (midOf (i * size) (i * size + size - i * size) support) → length rs ≡ length (midOf (i * step) (i * step + h * w - i * step) rings)
+      → (keep ≡ true → rs ≡ pairRings w h q (packed w (cutLow size i part)) (packed w (cutUp size i part))) × (keep ≡ false → Bare (h * w) rs) → ((b : ℕ) → getD above' b 0 < 256)
       → Packs w h (pairSupport w h q (packed w (cutLow size i part)) (packed w (cutUp size i part)) (packed w above)) above'
-      → Down w h n q i part (putMid (i * size) (i * size + size - i * size) support above') (putMid (i * (h * w)) (i * (h * w) + h * w - i * (h * w)) rings rs) above'
+      → Down keep w h n q i part (putMid (i * size) (i * size + size - i * size) support above') (putMid (i * step) (i * step + h * w - i * step) rings rs) above'
 
   layer-done-at : LayerDone (h * rowBytes w)
   layer-done-at ly lr' er small a =
       let size : ℕ = h * rowBytes w in
-      let area : ℕ = h * w in
       let el = low-plane size i part in
       let eu = up-plane size i part in
       let room : (i + 1) * size ≤ length support = omega (arith, row-next i size, layer-room w h n size i (length support) refl ls (omega arith)) in
-      let roomr : (i + 1) * area ≤ length rings = omega (arith, row-next i area, ring-room w h n area i (length rings) refl lr li) in
-      down-more w h n q lw part long i support (putMid (i * size) (i * size + size - i * size) support above') rings (putMid (i * area) (i * area + area - i * area) rings rs) above above' li D
-      (put-only size i support above' room ly) (put-only area i rings rs roomr lr')
-      (put-plane size i support above' room ly)
-      (put-plane area i rings rs roomr lr'
-      ∙ subst (λ (x : List ℕ). rs ≡ pairRings w h q (packed w x) (packed w (plane size (suc i) part))) el
-      (subst (λ (y : List ℕ). rs ≡ pairRings w h q (packed w (cutLow size i part)) (packed w y)) eu er))
+      let R = put-kept keep w h n step i rings et lr li in
+      down-more keep w h n q lw part long i support (putMid (i * size) (i * size + size - i * size) support above') rings
+      (putMid (i * step) (i * step + h * w - i * step) rings rs) above above' li D
+      (put-only size i support above' room ly) (put-plane size i support above' room ly)
+      (λ k. (
+        R k rs lr' .0,
+        R k rs lr' .1
+            ∙ subst (λ (x : List ℕ). rs ≡ pairRings w h q (packed w x) (packed w (plane size (suc i) part))) el
+            (subst (λ (y : List ℕ). rs ≡ pairRings w h q (packed w (cutLow size i part)) (packed w y)) eu (er .0 k)),
+      ))
+      (put-bare keep w h n step i rings et lr li rs lr' (er .1))
       small
       (subst (λ (x : List ℕ). Packs w h (pairSupport w h q (packed w x) (packed w (plane size (suc i) part)) (packed w above)) above') el
       (subst (λ (y : List ℕ). Packs w h (pairSupport w h q (packed w (cutLow size i part)) (packed w y) (packed w above)) above') eu a))

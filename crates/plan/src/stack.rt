@@ -1,16 +1,16 @@
 // The stack from the top layer down. Each layer is worked on in its own stretches of the lent buffers.
 use rules::Bound;
 ghost use mathlib.Core.Path.{_≡_};
-ghost use mathlib.Core.Bool.{false};
-ghost use Prim.Native.Nat.{suc, _+_, _-_, _*_, _<_, _≤_};
-ghost use lib.ListN.{length};
+ghost use mathlib.Core.Bool.{true, false, cond};
+ghost use Prim.Native.Nat.{ℕ, suc, _+_, _-_, _*_, _<_, _≤_};
+ghost use lib.ListN.{length, getD};
 ghost use Rattle.rules.specs.Images.{rowBytes, paddingSet};
 ghost use Rattle.rules.specs.Planning.{plannedRings, plannedBytes};
 ghost use Rattle.rules.specs.Reach.{mostBound};
 ghost use Rattle.laws.specs.Discs.{Halves};
 ghost use Rattle.words.specs.Words.{Ones};
 ghost use Rattle.image.specs.Rows.{Packs, plane, OnlyPlane};
-ghost use Rattle.pair.specs.Found.{Sized, Spare};
+ghost use Rattle.pair.specs.Found.{Sized, Spare, Hollow};
 ghost use Rattle.plan.specs.Stacks.{Buffers, Down};
 
 // Copies a plane.
@@ -23,6 +23,13 @@ pub fn put(from: &[u8], to: &mut [u8])
         to[i] = from[i];
         i += 1;
     }
+}
+
+// From the rings of one pair to those of the next: a plane, or none where all pairs share one.
+fn plane_step(keep: bool, area: usize) -> usize
+    ensures { λ r. ⌜ r ≡ cond keep area 0 ⌝ }
+{
+    if keep { area } else { 0 }
 }
 
 // Layer i of a stack that is planned from layer i + 1 on; above is the support of layer i + 1, and then that of layer i.
@@ -46,19 +53,22 @@ fn layer_at(
     i: usize,
     half: &[usize],
     ones: &[u16],
+    keep: bool,
 )
     requires { ⌜ Sized w h rb × (q .0 ≤ mostBound) × (suc i < n) × Halves (q .0) (now half) × Ones (now ones) ⌝ }
-    requires { ⌜ Buffers w h n (now part) (now support) (now rings) ⌝ }
-    requires { ⌜ Down w h n (q .0) (i + 1) (now part) (now support) (now rings) (now above) ⌝ }
+    requires { ⌜ Buffers keep w h n (now part) (now support) (now rings) ⌝ }
+    requires { ⌜ Down keep w h n (q .0) (i + 1) (now part) (now support) (now rings) (now above) ⌝ }
     requires { ⌜ Spare w h (now left) (now got) (now front) (now next) (now seed) (now lower) (now ahead) ⌝ }
-    ensures { λ _. ⌜ Down w h n (q .0) i (now (part .entry)) (now (support .exit)) (now (rings .exit)) (now (above .exit)) ⌝ }
+    requires { ⌜ Hollow ⌝ }
+    ensures { λ _. ⌜ Down keep w h n (q .0) i (now (part .entry)) (now (support .exit)) (now (rings .exit)) (now (above .exit)) ⌝ }
     ensures { λ _. ⌜ Spare w h (now (left .exit)) (now (got .exit)) (now (front .exit)) (now (next .exit)) (now (seed .exit)) (now (lower .exit)) (now (ahead .exit)) ⌝ }
 {
     let size = h * rb;
     let area = h * w;
     let a = i * size;
     let m = a + size;
-    let x = i * area;
+    let step = plane_step(keep, area);
+    let x = i * step;
     pair::layer(
         &part[a..m],
         &part[m..m + size],
@@ -78,6 +88,7 @@ fn layer_at(
         q,
         half,
         ones,
+        keep,
     );
     put(&support[a..m], above);
 }
@@ -102,13 +113,15 @@ fn layers(
     q: Bound,
     half: &[usize],
     ones: &[u16],
+    keep: bool,
 )
     requires { ⌜ Sized w h rb × (q .0 ≤ mostBound) × (0 < n) × Halves (q .0) (now half) × Ones (now ones) ⌝ }
-    requires { ⌜ Buffers w h n (now part) (now support) (now rings) ⌝ }
-    requires { ⌜ Down w h n (q .0) (n - 1) (now part) (now support) (now rings) (now above) ⌝ }
+    requires { ⌜ Buffers keep w h n (now part) (now support) (now rings) ⌝ }
+    requires { ⌜ Down keep w h n (q .0) (n - 1) (now part) (now support) (now rings) (now above) ⌝ }
     requires { ⌜ Spare w h (now left) (now got) (now front) (now next) (now seed) (now lower) (now ahead) ⌝ }
+    requires { ⌜ Hollow ⌝ }
     ensures { λ _. ⌜ now (support .exit) ≡ plannedBytes w h n (λ k. q .0) (now (part .entry)) ⌝ }
-    ensures { λ _. ⌜ now (rings .exit) ≡ plannedRings w h n (λ k. q .0) (now (part .entry)) ⌝ }
+    ensures { λ _. ⌜ (keep ≡ true → now (rings .exit) ≡ plannedRings w h n (λ k. q .0) (now (part .entry))) × (keep ≡ false → (p : ℕ) → p < h * w → getD (now (rings .exit)) p 0 ≡ 0) ⌝ }
 {
     let mut i = n - 1;
     while 0 < i {
@@ -133,6 +146,7 @@ fn layers(
             i,
             half,
             ones,
+            keep,
         );
     }
 }
@@ -148,7 +162,8 @@ pub fn top(support: &mut [u8], above: &[u8], w: usize, h: usize, n: usize, rb: u
     put(above, &mut support[a..a + size]);
 }
 
-// The whole stack, for the bound q on squared distances. The tables and the scratch of its pairs are made here and lent down.
+// The whole stack, for the bound q on squared distances. rings has a plane for each pair, or without `keep` one plane for all of them, which is 0 before and
+// afterwards. The tables and the scratch of its pairs are made here and lent down.
 pub fn stack(
     part: &[u8],
     support: &mut [u8],
@@ -158,11 +173,13 @@ pub fn stack(
     n: usize,
     rb: usize,
     q: Bound,
+    keep: bool,
 )
     requires { ⌜ Sized w h rb × (q .0 ≤ mostBound) × (0 < n) ⌝ }
-    requires { ⌜ Buffers w h n (now part) (now support) (now rings) ⌝ }
+    requires { ⌜ Buffers keep w h n (now part) (now support) (now rings) ⌝ }
+    requires { ⌜ Hollow ⌝ }
     ensures { λ _. ⌜ now (support .exit) ≡ plannedBytes w h n (λ k. q .0) (now (part .entry)) ⌝ }
-    ensures { λ _. ⌜ now (rings .exit) ≡ plannedRings w h n (λ k. q .0) (now (part .entry)) ⌝ }
+    ensures { λ _. ⌜ (keep ≡ true → now (rings .exit) ≡ plannedRings w h n (λ k. q .0) (now (part .entry))) × (keep ≡ false → (p : ℕ) → p < h * w → getD (now (rings .exit)) p 0 ≡ 0) ⌝ }
 {
     let size = h * rb;
     let mut above = [0u8; 8192];
@@ -197,5 +214,6 @@ pub fn stack(
         q,
         &half,
         &ones,
+        keep,
     );
 }

@@ -1,5 +1,6 @@
-use mathlib.Core.Path.{_∙_, sym}
+use mathlib.Core.Path.{_∙_, refl, sym}
 use lib.ListN.{length}
+use Rattle.laws.specs.Tests.{clash}
 use Rattle.plan.specs.CallLaws.{planable, refuses, plans}
 use native.Mathlib.Omega.{arith}
 use borrow.Author.Needs.{needs}
@@ -34,7 +35,7 @@ stack-requires c κs =
         b3 .bound-of .ensures .1,
         omega (arith, R .n-low),
       ),
-      record { part-long = Q .part-length; clean = Q .clean; support-long = Q .support-length; rings-long = Q .ring-count },
+      (record { part-long = Q .part-length; clean = Q .clean; support-long = Q .support-length; rings-long = Q .ring-count; bare = λ k p lp. clash refl k }, b9 .pre),
     )
 
 returns-2 : tie.Need-returns-2
@@ -46,7 +47,7 @@ returns-2 c =
     let q = b8 .bound-of in
     let k = b10 .stack-refusal .ensures in
     let z = b9 .if1 .left in
-    plans (A .s) (A .part .now) (A .support .now) (A .rings .now) _ k z (q .result .0) (q .ensures .0) (W .last .1 .0) (W .last .1 .1 .0) (W .ensures .0) (W .ensures .1)
+    plans (A .s) (A .part .now) (A .support .now) (A .rings .now) _ k z (q .result .0) (q .ensures .0) (W .last .1 .0) (W .last .1 .1 .0) (W .ensures .0) (W .ensures .1 .0 refl)
 
 pub fill-spec : {M : Type 1} → statement M
 fill-spec =

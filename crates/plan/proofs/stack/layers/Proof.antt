@@ -9,17 +9,17 @@ use Rattle.plan.proofs.stack.layers.Statement.{statement}
 use Rattle.plan.proofs.stack.layers.Tie as tie
 
 abbrev Inv-loop : tie.InvT-loop
-Inv-loop part support₀ rings₀ above₀ left₀ got₀ front₀ next₀ seed₀ lower₀ ahead₀ w h n rb q half ones i₀ support rings above left got front next seed lower ahead i =
-    (length support ≡ length support₀) × (length rings ≡ length rings₀) × (length above ≡ length above₀) × (i ≤ n - 1) × Down w h n (q .0) i part support rings above
+Inv-loop part support₀ rings₀ above₀ left₀ got₀ front₀ next₀ seed₀ lower₀ ahead₀ w h n rb q half ones keep i₀ support rings above left got front next seed lower ahead i =
+    (length support ≡ length support₀) × (length rings ≡ length rings₀) × (length above ≡ length above₀) × (i ≤ n - 1) × Down keep w h n (q .0) i part support rings above
     × Spare w h left got front next seed lower ahead
 
 abbrev μ-loop : tie.MeasureT-loop
-μ-loop part support₀ rings₀ above₀ left₀ got₀ front₀ next₀ seed₀ lower₀ ahead₀ w h n rb q half ones i₀ support rings above left got front next seed lower ahead i = i
+μ-loop part support₀ rings₀ above₀ left₀ got₀ front₀ next₀ seed₀ lower₀ ahead₀ w h n rb q half ones keep i₀ support rings above left got front next seed lower ahead i = i
 
 loop-holds : tie.Need-loop-holds Inv-loop μ-loop
 loop-holds c =
     let b13 = c .before .before .before .before .before .before .before .before .before .before .before .before .before in
-    (refl, refl, refl, omega arith, b13 .pre .1 .1 .0, b13 .pre .1 .1 .1)
+    (refl, refl, refl, omega arith, b13 .pre .1 .1 .0, b13 .pre .1 .1 .1 .0)
 
 layer-at-requires : tie.Need-layer-at-requires Inv-loop μ-loop
 layer-at-requires c κs =
@@ -31,8 +31,14 @@ layer-at-requires c κs =
     let e : L .i ≡ L .i - 1 + 1 = omega (arith, b10 .loop-test .taken) in (
       (P .0 .0, P .0 .1, omega (arith, L .inv .3, b10 .loop-test .taken), P .0 .3, P .0 .4),
       (
-        record { part-long = P .1 .0 .part-long; clean = P .1 .0 .clean; support-long = L .inv .0 ∙ P .1 .0 .support-long; rings-long = L .inv .1 ∙ P .1 .0 .rings-long },
-        (subst (λ (k : ℕ). Down (A .w) (A .h) (A .n) (A .q .0) k (A .part .now) (L .support) (L .rings) (L .above)) e (L .inv .4), L .inv .5),
+        record {
+          part-long = P .1 .0 .part-long;
+          clean = P .1 .0 .clean;
+          support-long = L .inv .0 ∙ P .1 .0 .support-long;
+          rings-long = L .inv .1 ∙ P .1 .0 .rings-long;
+          bare = L .inv .4 .bare;
+        },
+        (subst (λ (k : ℕ). Down (A .keep) (A .w) (A .h) (A .n) (A .q .0) k (A .part .now) (L .support) (L .rings) (L .above)) e (L .inv .4), (L .inv .5, P .1 .1 .1 .1)),
       ),
     )
 
@@ -58,37 +64,37 @@ loop-again c =
 same-length-4 : tie.Need-same-length-4 Inv-loop μ-loop
 same-length-4 c =
     let b15 = c .before .before .before .before .before .before .before .before .before .before .before .before .before .before .before in
-    c .before .loop .inv .5 .left-empty .long ∙ sym (b15 .pre .1 .1 .1 .left-empty .long)
+    c .before .loop .inv .5 .left-empty .long ∙ sym (b15 .pre .1 .1 .1 .0 .left-empty .long)
 
 same-length-5 : tie.Need-same-length-5 Inv-loop μ-loop
 same-length-5 c =
     let b15 = c .before .before .before .before .before .before .before .before .before .before .before .before .before .before .before in
-    c .before .loop .inv .5 .got-empty .long ∙ sym (b15 .pre .1 .1 .1 .got-empty .long)
+    c .before .loop .inv .5 .got-empty .long ∙ sym (b15 .pre .1 .1 .1 .0 .got-empty .long)
 
 same-length-6 : tie.Need-same-length-6 Inv-loop μ-loop
 same-length-6 c =
     let b15 = c .before .before .before .before .before .before .before .before .before .before .before .before .before .before .before in
-    c .before .loop .inv .5 .front-empty .long ∙ sym (b15 .pre .1 .1 .1 .front-empty .long)
+    c .before .loop .inv .5 .front-empty .long ∙ sym (b15 .pre .1 .1 .1 .0 .front-empty .long)
 
 same-length-7 : tie.Need-same-length-7 Inv-loop μ-loop
 same-length-7 c =
     let b15 = c .before .before .before .before .before .before .before .before .before .before .before .before .before .before .before in
-    c .before .loop .inv .5 .next-empty .long ∙ sym (b15 .pre .1 .1 .1 .next-empty .long)
+    c .before .loop .inv .5 .next-empty .long ∙ sym (b15 .pre .1 .1 .1 .0 .next-empty .long)
 
 same-length-8 : tie.Need-same-length-8 Inv-loop μ-loop
 same-length-8 c =
     let b15 = c .before .before .before .before .before .before .before .before .before .before .before .before .before .before .before in
-    c .before .loop .inv .5 .seed-ready .long ∙ sym (b15 .pre .1 .1 .1 .seed-ready .long)
+    c .before .loop .inv .5 .seed-ready .long ∙ sym (b15 .pre .1 .1 .1 .0 .seed-ready .long)
 
 same-length-9 : tie.Need-same-length-9 Inv-loop μ-loop
 same-length-9 c =
     let b15 = c .before .before .before .before .before .before .before .before .before .before .before .before .before .before .before in
-    c .before .loop .inv .5 .lower-ready .long ∙ sym (b15 .pre .1 .1 .1 .lower-ready .long)
+    c .before .loop .inv .5 .lower-ready .long ∙ sym (b15 .pre .1 .1 .1 .0 .lower-ready .long)
 
 same-length-10 : tie.Need-same-length-10 Inv-loop μ-loop
 same-length-10 c =
     let b15 = c .before .before .before .before .before .before .before .before .before .before .before .before .before .before .before in
-    c .before .loop .inv .5 .ahead-long ∙ sym (b15 .pre .1 .1 .1 .ahead-long)
+    c .before .loop .inv .5 .ahead-long ∙ sym (b15 .pre .1 .1 .1 .0 .ahead-long)
 
 returns : tie.Need-returns Inv-loop μ-loop
 returns c =
@@ -97,9 +103,9 @@ returns c =
     let P = b15 .pre in
     let L = c .before .loop in
     let z : L .i ≡ 0 = omega (arith, c .loop-test .left) in
-    down-end (A .w) (A .h) (A .n) (A .q .0) (P .0 .0 .sizes .w-min) (A .part .now) (P .1 .0 .part-long) (L .support) (L .rings) (L .above) (L .inv .0 ∙ P .1 .0 .support-long)
+    down-end (A .keep) (A .w) (A .h) (A .n) (A .q .0) (P .0 .0 .sizes .w-min) (A .part .now) (P .1 .0 .part-long) (L .support) (L .rings) (L .above) (L .inv .0 ∙ P .1 .0 .support-long)
     (L .inv .1 ∙ P .1 .0 .rings-long)
-    (subst (λ (k : ℕ). Down (A .w) (A .h) (A .n) (A .q .0) k (A .part .now) (L .support) (L .rings) (L .above)) z (L .inv .4))
+    (subst (λ (k : ℕ). Down (A .keep) (A .w) (A .h) (A .n) (A .q .0) k (A .part .now) (L .support) (L .rings) (L .above)) z (L .inv .4))
 
 pub layers-spec : {M : Type 1} → statement M
 layers-spec =
