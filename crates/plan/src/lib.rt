@@ -4,12 +4,10 @@ pub mod stack;
 use rules::Planned;
 use rules::Settings;
 ghost use Rattle.rules.specs.Outcomes.{Plans};
-ghost use Rattle.pair.specs.Found.{Hollow};
 ghost use Rattle.plan.specs.CallLaws.{Planning};
 
 // Plans a part: fills support and rings, or leaves both as they were; the number of the refusal, 0 for none.
 pub fn fill(s: Settings, part: &[u8], support: &mut [u8], rings: &mut [u16]) -> u8
-    requires { ⌜ Hollow ⌝ }
     ensures { λ k. ⌜ Planning s (now (part .entry)) (now (support .entry)) (now (rings .entry)) k (now (support .exit)) (now (rings .exit)) ⌝ }
 {
     let k = limits::stack_refusal(s, true, part, support.len(), rings.len());
@@ -24,7 +22,6 @@ pub fn fill(s: Settings, part: &[u8], support: &mut [u8], rings: &mut [u16]) -> 
 
 // Plans a part: fills support and rings, or refuses and leaves both as they were.
 pub fn plan(s: Settings, part: &[u8], support: &mut [u8], rings: &mut [u16]) -> Planned
-    requires { ⌜ Hollow ⌝ }
     ensures { λ r. ⌜ Plans s (now (part .entry)) (now (support .entry)) (now (rings .entry)) r (now (support .exit)) (now (rings .exit)) ⌝ }
 {
     let number = fill(s, part, support, rings);

@@ -10,7 +10,7 @@ ghost use Rattle.rules.specs.Reach.{mostBound};
 ghost use Rattle.laws.specs.Discs.{Halves};
 ghost use Rattle.words.specs.Words.{Ones};
 ghost use Rattle.image.specs.Rows.{Packs, plane, OnlyPlane};
-ghost use Rattle.pair.specs.Found.{Sized, Spare, Hollow};
+ghost use Rattle.pair.specs.Found.{Sized, Spare};
 ghost use Rattle.plan.specs.Stacks.{Buffers, Down};
 
 // Copies a plane.
@@ -59,7 +59,6 @@ fn layer_at(
     requires { ⌜ Buffers keep w h n (now part) (now support) (now rings) ⌝ }
     requires { ⌜ Down keep w h n (q .0) (i + 1) (now part) (now support) (now rings) (now above) ⌝ }
     requires { ⌜ Spare w h (now left) (now got) (now front) (now next) (now seed) (now lower) (now ahead) ⌝ }
-    requires { ⌜ Hollow ⌝ }
     ensures { λ _. ⌜ Down keep w h n (q .0) i (now (part .entry)) (now (support .exit)) (now (rings .exit)) (now (above .exit)) ⌝ }
     ensures { λ _. ⌜ Spare w h (now (left .exit)) (now (got .exit)) (now (front .exit)) (now (next .exit)) (now (seed .exit)) (now (lower .exit)) (now (ahead .exit)) ⌝ }
 {
@@ -119,7 +118,6 @@ fn layers(
     requires { ⌜ Buffers keep w h n (now part) (now support) (now rings) ⌝ }
     requires { ⌜ Down keep w h n (q .0) (n - 1) (now part) (now support) (now rings) (now above) ⌝ }
     requires { ⌜ Spare w h (now left) (now got) (now front) (now next) (now seed) (now lower) (now ahead) ⌝ }
-    requires { ⌜ Hollow ⌝ }
     ensures { λ _. ⌜ now (support .exit) ≡ plannedBytes w h n (λ k. q .0) (now (part .entry)) ⌝ }
     ensures { λ _. ⌜ (keep ≡ true → now (rings .exit) ≡ plannedRings w h n (λ k. q .0) (now (part .entry))) × (keep ≡ false → (p : ℕ) → p < h * w → getD (now (rings .exit)) p 0 ≡ 0) ⌝ }
 {
@@ -177,7 +175,6 @@ pub fn stack(
 )
     requires { ⌜ Sized w h rb × (q .0 ≤ mostBound) × (0 < n) ⌝ }
     requires { ⌜ Buffers keep w h n (now part) (now support) (now rings) ⌝ }
-    requires { ⌜ Hollow ⌝ }
     ensures { λ _. ⌜ now (support .exit) ≡ plannedBytes w h n (λ k. q .0) (now (part .entry)) ⌝ }
     ensures { λ _. ⌜ (keep ≡ true → now (rings .exit) ≡ plannedRings w h n (λ k. q .0) (now (part .entry))) × (keep ≡ false → (p : ℕ) → p < h * w → getD (now (rings .exit)) p 0 ≡ 0) ⌝ }
 {

@@ -35,7 +35,7 @@ stack-requires c κs =
         b3 .bound-of .ensures .1,
         omega (arith, R .n-low),
       ),
-      (record { part-long = Q .part-length; clean = Q .clean; support-long = Q .support-length; rings-long = Q .ring-count; bare = λ k p lp. clash refl k }, b9 .pre),
+      record { part-long = Q .part-length; clean = Q .clean; support-long = Q .support-length; rings-long = Q .ring-count; bare = λ k p lp. clash refl k },
     )
 
 returns-2 : tie.Need-returns-2

@@ -123,7 +123,7 @@ layer-requires c κs =
         (
           above-apart (A .keep) (A .w) (A .h) (A .n) (A .q .0) size (A .i) (P .0 .0 .sizes .w-min) (A .part .now) (A .support .now) (A .rings .now) (A .above .now) es
               (B .part-long) (P .0 .2) (P .1 .1 .0),
-          (P .1 .1 .1 .0, (lent-bare (A .keep) (A .w) (A .h) (A .n) (S .result) (A .i) (A .rings .now) (S .ensures) (B .rings-long) (P .0 .2) (B .bare), P .1 .1 .1 .1)),
+          (P .1 .1 .1, lent-bare (A .keep) (A .w) (A .h) (A .n) (S .result) (A .i) (A .rings .now) (S .ensures) (B .rings-long) (P .0 .2) (B .bare)),
         ),
       ),
     )

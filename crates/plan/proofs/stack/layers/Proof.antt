@@ -19,7 +19,7 @@ abbrev μ-loop : tie.MeasureT-loop
 loop-holds : tie.Need-loop-holds Inv-loop μ-loop
 loop-holds c =
     let b13 = c .before .before .before .before .before .before .before .before .before .before .before .before .before in
-    (refl, refl, refl, omega arith, b13 .pre .1 .1 .0, b13 .pre .1 .1 .1 .0)
+    (refl, refl, refl, omega arith, b13 .pre .1 .1 .0, b13 .pre .1 .1 .1)
 
 layer-at-requires : tie.Need-layer-at-requires Inv-loop μ-loop
 layer-at-requires c κs =
@@ -38,7 +38,7 @@ layer-at-requires c κs =
           rings-long = L .inv .1 ∙ P .1 .0 .rings-long;
           bare = L .inv .4 .bare;
         },
-        (subst (λ (k : ℕ). Down (A .keep) (A .w) (A .h) (A .n) (A .q .0) k (A .part .now) (L .support) (L .rings) (L .above)) e (L .inv .4), (L .inv .5, P .1 .1 .1 .1)),
+        (subst (λ (k : ℕ). Down (A .keep) (A .w) (A .h) (A .n) (A .q .0) k (A .part .now) (L .support) (L .rings) (L .above)) e (L .inv .4), L .inv .5),
       ),
     )
 
@@ -64,37 +64,37 @@ loop-again c =
 same-length-4 : tie.Need-same-length-4 Inv-loop μ-loop
 same-length-4 c =
     let b15 = c .before .before .before .before .before .before .before .before .before .before .before .before .before .before .before in
-    c .before .loop .inv .5 .left-empty .long ∙ sym (b15 .pre .1 .1 .1 .0 .left-empty .long)
+    c .before .loop .inv .5 .left-empty .long ∙ sym (b15 .pre .1 .1 .1 .left-empty .long)
 
 same-length-5 : tie.Need-same-length-5 Inv-loop μ-loop
 same-length-5 c =
     let b15 = c .before .before .before .before .before .before .before .before .before .before .before .before .before .before .before in
-    c .before .loop .inv .5 .got-empty .long ∙ sym (b15 .pre .1 .1 .1 .0 .got-empty .long)
+    c .before .loop .inv .5 .got-empty .long ∙ sym (b15 .pre .1 .1 .1 .got-empty .long)
 
 same-length-6 : tie.Need-same-length-6 Inv-loop μ-loop
 same-length-6 c =
     let b15 = c .before .before .before .before .before .before .before .before .before .before .before .before .before .before .before in
-    c .before .loop .inv .5 .front-empty .long ∙ sym (b15 .pre .1 .1 .1 .0 .front-empty .long)
+    c .before .loop .inv .5 .front-empty .long ∙ sym (b15 .pre .1 .1 .1 .front-empty .long)
 
 same-length-7 : tie.Need-same-length-7 Inv-loop μ-loop
 same-length-7 c =
     let b15 = c .before .before .before .before .before .before .before .before .before .before .before .before .before .before .before in
-    c .before .loop .inv .5 .next-empty .long ∙ sym (b15 .pre .1 .1 .1 .0 .next-empty .long)
+    c .before .loop .inv .5 .next-empty .long ∙ sym (b15 .pre .1 .1 .1 .next-empty .long)
 
 same-length-8 : tie.Need-same-length-8 Inv-loop μ-loop
 same-length-8 c =
     let b15 = c .before .before .before .before .before .before .before .before .before .before .before .before .before .before .before in
-    c .before .loop .inv .5 .seed-ready .long ∙ sym (b15 .pre .1 .1 .1 .0 .seed-ready .long)
+    c .before .loop .inv .5 .seed-ready .long ∙ sym (b15 .pre .1 .1 .1 .seed-ready .long)
 
 same-length-9 : tie.Need-same-length-9 Inv-loop μ-loop
 same-length-9 c =
     let b15 = c .before .before .before .before .before .before .before .before .before .before .before .before .before .before .before in
-    c .before .loop .inv .5 .lower-ready .long ∙ sym (b15 .pre .1 .1 .1 .0 .lower-ready .long)
+    c .before .loop .inv .5 .lower-ready .long ∙ sym (b15 .pre .1 .1 .1 .lower-ready .long)
 
 same-length-10 : tie.Need-same-length-10 Inv-loop μ-loop
 same-length-10 c =
     let b15 = c .before .before .before .before .before .before .before .before .before .before .before .before .before .before .before in
-    c .before .loop .inv .5 .ahead-long ∙ sym (b15 .pre .1 .1 .1 .0 .ahead-long)
+    c .before .loop .inv .5 .ahead-long ∙ sym (b15 .pre .1 .1 .1 .ahead-long)
 
 returns : tie.Need-returns Inv-loop μ-loop
 returns c =

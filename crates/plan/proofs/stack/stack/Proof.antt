@@ -19,7 +19,7 @@ top-requires c κs =
     let b5 = c .before .before .before .before .before in let args = b5 .args in
     let P = b5 .pre in
     let Z = plane-size (args .w) (args .h) (args .rb) (P .0 .0) in
-    ((P .0 .0, P .0 .2), (P .1 .0 .support-long, fresh-pack (args .w) (args .h) (P .0 .0 .sizes .w-min) (args .h * args .rb) (Z .0) (Z .1)))
+    ((P .0 .0, P .0 .2), (P .1 .support-long, fresh-pack (args .w) (args .h) (P .0 .0 .sizes .w-min) (args .h * args .rb) (Z .0) (Z .1)))
 
 array-borrow-prefix-above : tie.Need-array-borrow-prefix-above
 array-borrow-prefix-above c =
@@ -43,12 +43,12 @@ layers-requires c κs =
     let T = b20 .top in (
       (P .0 .0, P .0 .1, P .0 .2, b16 .halves .ensures, b13 .fill .ensures),
       (
-        record { part-long = P .1 .0 .part-long; clean = P .1 .0 .clean; support-long = T .kept .0 ∙ P .1 .0 .support-long; rings-long = P .1 .0 .rings-long; bare = P .1 .0 .bare },
+        record { part-long = P .1 .part-long; clean = P .1 .clean; support-long = T .kept .0 ∙ P .1 .support-long; rings-long = P .1 .rings-long; bare = P .1 .bare },
         (
-          down-start (A .keep) (A .w) (A .h) (A .n) (A .q .0) (P .0 .0 .sizes .w-min) (A .part .now) (P .1 .0 .part-long) (A .support .now) (T .last .0) (A .rings .now)
-              (take size (replicate 8192 0)) (P .0 .2) (P .1 .0 .support-long) (P .1 .0 .rings-long) (P .1 .0 .bare) (T .ensures .1) (T .ensures .0)
+          down-start (A .keep) (A .w) (A .h) (A .n) (A .q .0) (P .0 .0 .sizes .w-min) (A .part .now) (P .1 .part-long) (A .support .now) (T .last .0) (A .rings .now)
+              (take size (replicate 8192 0)) (P .0 .2) (P .1 .support-long) (P .1 .rings-long) (P .1 .bare) (T .ensures .1) (T .ensures .0)
               (zeros-small size) (fresh-pack (A .w) (A .h) (P .0 .0 .sizes .w-min) size (Z .0) (Z .1)),
-          (fresh-spare (A .w) (A .h), P .1 .1),
+          fresh-spare (A .w) (A .h),
         ),
       ),
     )
