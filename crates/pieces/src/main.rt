@@ -1,8 +1,10 @@
 // Runs every bench piece of docs/RULES.md through the public calls, and then the ends of the limits. A planned piece shows its number, its
-// support in hexadecimal and its rings; a cleaned one its number, its planned support and its cleaned; a checked one its number and place.
+// support in hexadecimal and its rings; a cleaned one its number, its planned support and its cleaned; one with posts its number and them; a checked
+// one its number and place.
 use clean::clean;
 use judge::judge;
 use plan::plan;
+use posts::posts;
 use rules::Judged;
 use rules::Micrometres;
 use rules::Pixels;
@@ -216,6 +218,73 @@ fn cleans() {
     show_clean(b"s by 33", &[0x10, 0xF7], 33);
 }
 
+// Holds a piece by posts.
+fn show_posts(name: &[u8], s: Settings, radius: u32, part: &[u8], out: &mut [u8]) {
+    say(name);
+    show_planned(posts(s, Micrometres(radius), part, out));
+    say(b" posts");
+    show_bytes(out);
+    say(b"\n");
+}
+
+// Two layers of eight pixels.
+fn two_on_posts(name: &[u8], part: &[u8], overhang: u32, radius: u32) {
+    let mut out = [0xAAu8; 2];
+    show_posts(
+        name,
+        settings(8, 1, 2, 100, overhang),
+        radius,
+        part,
+        &mut out,
+    );
+}
+
+// Three layers of eight pixels.
+fn three_on_posts(name: &[u8], part: &[u8], overhang: u32, radius: u32) {
+    let mut out = [0xAAu8; 3];
+    show_posts(
+        name,
+        settings(8, 1, 3, 100, overhang),
+        radius,
+        part,
+        &mut out,
+    );
+}
+
+// Two layers of three rows with four pixels.
+fn rows_on_posts(name: &[u8], part: &[u8], radius: u32) {
+    let mut out = [0xAAu8; 6];
+    show_posts(name, settings(4, 3, 2, 100, 0), radius, part, &mut out);
+}
+
+// Two layers of two rows with two pixels.
+fn squares_on_posts(name: &[u8], part: &[u8], radius: u32) {
+    let mut out = [0xAAu8; 4];
+    show_posts(name, settings(2, 2, 2, 100, 0), radius, part, &mut out);
+}
+
+// Three layers of two rows with five pixels.
+fn padded_on_posts(name: &[u8], part: &[u8]) {
+    let mut out = [0xAAu8; 6];
+    show_posts(name, settings(5, 2, 3, 100, 0), 200, part, &mut out);
+}
+
+// The pieces of posts, a radius of 33 pixels, and piece w, whose padding is set.
+fn held() {
+    two_on_posts(b"aa", &[0xE0, 0xFF], 200, 0);
+    two_on_posts(b"ab", &[0xE0, 0xFF], 200, 200);
+    two_on_posts(b"ac", &[0xE0, 0xFF], 200, 100);
+    three_on_posts(b"ad", &[0x04, 0xE0, 0xFF], 200, 200);
+    three_on_posts(b"ae", &[0x00, 0x70, 0x84], 0, 200);
+    rows_on_posts(b"af", &[0x00, 0x00, 0x00, 0xE0, 0x10, 0xE0], 224);
+    rows_on_posts(b"ag", &[0x00, 0x00, 0x00, 0x20, 0x20, 0x70], 200);
+    three_on_posts(b"ah", &[0x00, 0x00, 0x80], 0, 200);
+    squares_on_posts(b"ai", &[0x00, 0x00, 0x80, 0x40], 142);
+    squares_on_posts(b"ai at 141", &[0x00, 0x00, 0x80, 0x40], 141);
+    two_on_posts(b"ab by 3300", &[0xE0, 0xFF], 200, 3300);
+    padded_on_posts(b"w by posts", &[0, 0, 0, 4, 1, 0]);
+}
+
 fn one(yes: bool) -> u64
     ensures { λ r. ⌜ r ≤ 1 ⌝ }
 {
@@ -362,6 +431,7 @@ fn main() {
     checks();
     cleans();
     places();
+    held();
     full();
     half();
     disc();
