@@ -3,10 +3,10 @@ use mathlib.Core.Path.{_≡_, refl, sym, ap, ap₂, subst, _∙_}
 use mathlib.Core.Bool.{Bool, true, false, not, _&&_, _||_}
 use mathlib.Core.List.{List}
 use mathlib.Core.Logic.{_⊎_, inl, inr, ⊎-elim}
-use Prim.Native.Nat.{ℕ, min, _+_, _-_, _*_, _/_, _%_, _<_, _≤_}
+use Prim.Native.Nat.{ℕ, min, max, _+_, _-_, _*_, _/_, _%_, _<_, _≤_}
 use native.Mathlib.Nat.{div-add-mod', mul-le-mul}
 use native.Mathlib.Omega.{arith}
-use native.Mathlib.Decide.{decLt, decLe}
+use native.Mathlib.Decide.{decLt, decLe, ℕ-discrete}
 use borrow.Author.Tests.{lt-ltb, le-ltb, ltb-true, ltb-false, le-leb, leb-true}
 use lib.Arith.{digits-div, digits-mod}
 use lib.Dec.{leb, ltb}
@@ -19,7 +19,7 @@ use Rattle.words.specs.Words.{wordBit, Within}
 use Rattle.planes.specs.Scratch.{spot}
 use Rattle.pair.specs.Found.{Empty}
 use Rattle.posts.specs.TwoLaws.{WipedTo}
-use Rattle.posts.specs.Taking.{Next, Spreads, Beside, Columns, Looked, discBit, Taking, Ahead, ClosedTo, Closed}
+use Rattle.posts.specs.Taking.{Next, Spreads, Beside, Columns, Looked, discBit, Taking, Ahead, ClosedBut, Closed}
 
 -- the disc ---------------------------------------------------------------------------------------------------------------
 
@@ -120,6 +120,20 @@ module _ (k b : ℕ) (disc : ℕ → Bool) (told : Bool) (rest got rest' got' : 
 pub beyond : (d rows reach m : ℕ) → m ≡ min rows reach → m < d → (rows < d) ⊎ (reach < d)
 beyond d rows reach m e l = elim (decLt rows d) [ yes p ↦ inl p | no p ↦ inr (omega arith) ]
 
+-- one row back is no further than the row, but for row 0
+pub stepped : (d b : ℕ) → (0 < d → b + 1 ≡ d) × (d ≡ 0 → b ≡ 1) → (b ≤ d + 1) × (b < d + 1 → b + 1 ≡ d)
+stepped d b (pos, nul) = elim (decLt 0 d) [
+  | yes p ↦ let e = pos p in (omega arith, λ l. omega arith)
+  | no p ↦ let z : d ≡ 0 = omega arith in let e : b ≡ 1 = nul z in (omega arith, λ l. absurd (omega arith))
+]
+
+-- the last row that was looked at leaves none open
+pub ended : (d s rows reach m : ℕ) → d ≤ s → (d < s → (d < rows) × (d ≤ reach)) → m ≡ min rows reach → m < d → s ≡ d
+ended d s rows reach m ds f e l = elim (decLt d s) [
+  | yes p ↦ let (a, b) = f p in absurd (omega arith)
+  | no p ↦ omega arith
+]
+
 -- growing ----------------------------------------------------------------------------------------------------------------
 
 module _ (q y c b : ℕ) (lq : q ≤ mostBound) (lb : b * 64 ≤ c) (W : (j : ℕ) → j < 256 → c ≤ j + 32 → j ≤ c + 32 → (b * 64 ≤ j) × (j < b * 64 + 128)) (b2 : b ≤ 2)
@@ -138,13 +152,13 @@ module _ (q y c b : ℕ) (lq : q ≤ mostBound) (lb : b * 64 ≤ c) (W : (j : �
     none-before : (j : ℕ) → wordBit rest j ≡ true → y + 33 ≤ j / 320
     none-before j e = omega (arith, A j (remains j e) .0)
 
-    pub closed-start : ClosedTo q y c 0 rest got
-    closed-start j o l r e g n = omega (arith, none-before j r)
+    pub closed-start : ClosedBut q y c 0 0 rest got
+    closed-start j o l m r e g n = omega (arith, none-before j r)
 
     -- at the end nothing remains that could still be got
-    pub closed-end : (d reach : ℕ) → HalfWidth q 0 reach → (rows < d) ⊎ (reach < d) → ClosedTo q y c d rest got → Closed q y c rest got
+    pub closed-end : (d reach : ℕ) → HalfWidth q 0 reach → (rows < d) ⊎ (reach < d) → ClosedBut q y c d d rest got → Closed q y c rest got
     closed-end d reach H e C j o r x g n = elim (decLt (j / 320) (y + 33 + d)) [
-      | yes l ↦ C j o l r x g n
+      | yes l ↦ C j o l (λ z. omega arith) r x g n
       | no l ↦ ⊎-elim (λ z. omega (arith, S .deep o g, n .0)) (λ z. omega (arith, disc-rows q y c reach j H x)) e
     ]
 
@@ -242,20 +256,30 @@ module _ (q y c b : ℕ) (lq : q ≤ mostBound) (lb : b * 64 ≤ c) (W : (j : �
             (omega arith, omega arith)) (got-more j e);
       }
 
-      -- the row is closed now, and those before it are as they were
-      pub closed-next : told ≡ false → ClosedTo q y c d rest got → ClosedTo q y c (d + 1) rest' got'
-      closed-next t C j o l r e g n = elim (decLt (j / 320) (y + 33 + d)) [
-        | yes p ↦ C j o p (less j r) e (⊎-elim (λ u. u) (λ (x, z, u). clash u (L .none t x)) (got-more o g)) n
-        | no p ↦
-            let (x, lx, z) = in-row j (omega arith) (less j r) e in
-            L .whole got-columns x o lx (subst (λ (i : ℕ). wordBit rest' i ≡ true) (sym z) r) (about x lx ∙ subst (λ (i : ℕ). discBit q y c i ≡ true) (sym z) e) g (subst (λ (i : ℕ). Beside i o) (sym z) n)
+      -- the row that was looked at is closed
+      row-closed : (j o : ℕ) → j / 320 ≡ y + 33 + d → wordBit rest' j ≡ true → discBit q y c j ≡ true → wordBit got' o ≡ true → Beside j o → ⊥
+      row-closed j o k r e g n =
+          let (x, lx, z) = in-row j k (less j r) e in
+          L .whole got-columns x o lx (subst (λ (i : ℕ). wordBit rest' i ≡ true) (sym z) r) (about x lx ∙ subst (λ (i : ℕ). discBit q y c i ≡ true) (sym z) e) g (subst (λ (i : ℕ). Beside i o) (sym z) n)
+
+      -- nothing changed: the rows before s are closed all of them, and this one
+      pub closed-next : told ≡ false → (s m : ℕ) → d ≤ s → m ≡ max s (d + 1) → ClosedBut q y c s d rest got → ClosedBut q y c m m rest' got'
+      closed-next t s m ds em C j o l k r e g n = elim (ℕ-discrete (j / 320) (y + 33 + d)) [
+        | yes u ↦ row-closed j o u r e g n
+        | no u ↦ C j o (omega arith) u (less j r) e (⊎-elim (λ v. v) (λ (x, z, v). clash v (L .none t x)) (got-more o g)) n
       ]
 
-      -- the row changed: those before the one above it are still closed
-      pub closed-back : ClosedTo q y c d rest got → ClosedTo q y c (d - 1) rest' got'
-      closed-back C j o l r e g n =
-          ⊎-elim (λ u. C j o (omega arith) (less j r) e u n)
-          (λ (x, z, u).
-          let k : o / 320 ≡ y + 33 + d = ap (λ (i : ℕ). i / 320) (sym z) ∙ row-of x (L .there x u .0) in
-          omega (arith, n .0, none-before j (less j r)))
-          (got-more o g)
+      -- the row changed: the one before it may be open, those before that one are not
+      pub closed-back : (s b' : ℕ) → d ≤ s → (0 < d → b' + 1 ≡ d) × (d ≡ 0 → b' ≡ 1) → ClosedBut q y c s d rest got → ClosedBut q y c (d + 1) b' rest' got'
+      closed-back s b' ds (pos, nul) C j o l k r e g n = elim (ℕ-discrete (j / 320) (y + 33 + d)) [
+        | yes u ↦ row-closed j o u r e g n
+        | no u ↦ elim (decLt 0 d) [
+          | yes p ↦ let eb : b' + 1 ≡ d = pos p in
+              ⊎-elim (λ v. C j o (omega arith) u (less j r) e v n)
+              (λ (x, z, v).
+              let ro : o / 320 ≡ y + 33 + d = ap (λ (i : ℕ). i / 320) (sym z) ∙ row-of x (L .there x v .0) in
+              omega (arith, n .0))
+              (got-more o g)
+          | no p ↦ omega (arith, none-before j (less j r))
+        ]
+      ]

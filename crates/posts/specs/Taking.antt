@@ -74,9 +74,9 @@ pub record Taking (q y c rows : ℕ) (was rest got : List ℕ) : Type 0 where
 abbrev pub Ahead : ℕ → ℕ → List ℕ → Type 0
 Ahead y c was = (j : ℕ) → wordBit was j ≡ true → (spot y c ≤ j) × (j % 320 < 256)
 
--- nothing that could still be got remains in the rows before row d of the disc
-abbrev pub ClosedTo : ℕ → ℕ → ℕ → ℕ → List ℕ → List ℕ → Type 0
-ClosedTo q y c d rest got = (j o : ℕ) → j / 320 < y + 33 + d → wordBit rest j ≡ true → discBit q y c j ≡ true → wordBit got o ≡ true → Beside j o → ⊥
+-- nothing that could still be got remains in the rows before row s of the disc, but for row d
+abbrev pub ClosedBut : ℕ → ℕ → ℕ → ℕ → ℕ → List ℕ → List ℕ → Type 0
+ClosedBut q y c s d rest got = (j o : ℕ) → j / 320 < y + 33 + s → (j / 320 ≡ y + 33 + d → ⊥) → wordBit rest j ≡ true → discBit q y c j ≡ true → wordBit got o ≡ true → Beside j o → ⊥
 
 -- nothing at all
 abbrev pub Closed : ℕ → ℕ → ℕ → List ℕ → List ℕ → Type 0

@@ -114,11 +114,11 @@ fn look(rest: &mut [u64], got: &mut [u64], i: usize, disc: Row) -> bool
     true
 }
 
-// The row before row d, and d where there is none.
-fn before(d: usize) -> usize
-    ensures { λ r. ⌜ r ≡ d - 1 ⌝ }
+// The row before row d, and behind row 0 row 1.
+fn back(d: usize) -> usize
+    ensures { λ r. ⌜ (0 < d → r + 1 ≡ d) × (d ≡ 0 → r ≡ 1) ⌝ }
 {
-    if 0 < d { d - 1 } else { d }
+    if 0 < d { d - 1 } else { 1 }
 }
 
 fn greater(a: usize, b: usize) -> usize
@@ -135,8 +135,8 @@ fn word_of(c: usize) -> usize
     numbers::lesser(numbers::less(c, 32) / 64, 2)
 }
 
-// Grows from the pixel in row y and column c, which is got already. Where a row changed, the one before it is looked at again, so that no row before
-// row d can change. Answers how many rows have something.
+// Grows from the pixel in row y and column c, which is got already. Where a row changed, the one before it is looked at again: the rows before `sure` cannot
+// change any more, but for row d. Answers how many rows have something.
 fn grow(rest: &mut [u64], got: &mut [u64], y: usize, c: usize, q: Bound, half: &[usize]) -> usize
     requires { ⌜ (length (now rest) ≡ 1610) × (length (now got) ≡ 1610) × (y < 256) × (c < 256) × (q .0 ≤ mostBound) × Halves (q .0) (now half) ⌝ }
     ensures { λ n. ⌜ ((was : List ℕ) → Ahead y c was → Taking (q .0) y c 1 was (now (rest .entry)) (now (got .entry))
@@ -147,13 +147,16 @@ fn grow(rest: &mut [u64], got: &mut [u64], y: usize, c: usize, q: Bound, half: &
     let i = (y + 33) * 5 + b;
     let reach = half[0];
     let mut rows: usize = 1;
+    let mut sure: usize = 0;
     let mut d: usize = 0;
     while d <= numbers::lesser(rows, reach) {
         if look(rest, got, i + 5 * d, about(x, half[d])) {
             rows = greater(rows, d + 1);
-            d = before(d);
+            sure = d + 1;
+            d = back(d);
         } else {
-            d += 1;
+            d = greater(sure, d + 1);
+            sure = d;
         }
     }
     rows

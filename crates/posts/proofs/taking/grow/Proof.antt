@@ -1,26 +1,26 @@
 use mathlib.Core.Path.{_≡_, refl, sym, _∙_}
 use mathlib.Core.List.{List}
-use Prim.Native.Nat.{ℕ, _+_, _-_, _*_, _≤_}
+use Prim.Native.Nat.{ℕ, _+_, _-_, _*_, _<_, _≤_}
 use lib.ListN.{length}
 use Rattle.rules.specs.Reach.{mostBound}
 use Rattle.rules.specs.Tools.{count}
 use Rattle.laws.specs.Discs.{Halves}
 use Rattle.laws.specs.Tests.{clash}
 use Rattle.words.specs.Words.{wordBit}
-use Rattle.posts.specs.Taking.{Taking, Ahead, ClosedTo}
-use Rattle.posts.specs.GrowLaws.{closed-start, closed-end, taking-more, closed-next, closed-back, beyond, half-at, looked-same, count-same, count-less}
+use Rattle.posts.specs.Taking.{Taking, Ahead, ClosedBut}
+use Rattle.posts.specs.GrowLaws.{closed-start, closed-end, taking-more, closed-next, closed-back, beyond, stepped, ended, half-at, looked-same, count-same, count-less}
 use native.Mathlib.Omega.{arith}
 use borrow.Author.Needs.{needs}
 use Rattle.posts.proofs.taking.grow.Statement.{statement}
 use Rattle.posts.proofs.taking.grow.Tie as tie
 
 abbrev Inv-loop : tie.InvT-loop
-Inv-loop rest₀ got₀ y c half b x i reach rows₀ d₀ rest got rows d =
-    (length rest ≡ 1610) × (length got ≡ 1610) × (1 ≤ rows) × (rows ≤ reach + 1) × (d ≤ reach + 1)
-    × ((q : ℕ) → q ≤ mostBound → Halves q half → (was : List ℕ) → Ahead y c was → Taking q y c 1 was rest₀ got₀ → Taking q y c rows was rest got × ClosedTo q y c d rest got)
+Inv-loop rest₀ got₀ y c half b x i reach rows₀ sure₀ d₀ rest got rows sure d =
+    (length rest ≡ 1610) × (length got ≡ 1610) × (1 ≤ rows) × (rows ≤ reach + 1) × ((d ≤ sure) × (sure ≤ reach + 1) × (d < sure → (d < rows) × (d ≤ reach)))
+    × ((q : ℕ) → q ≤ mostBound → Halves q half → (was : List ℕ) → Ahead y c was → Taking q y c 1 was rest₀ got₀ → Taking q y c rows was rest got × ClosedBut q y c sure d rest got)
 
 abbrev μ-loop : tie.MeasureT-loop
-μ-loop rest₀ got₀ y c half b x i reach rows₀ d₀ rest got rows d = count 103040 (wordBit rest) * 64 + (40 - d)
+μ-loop rest₀ got₀ y c half b x i reach rows₀ sure₀ d₀ rest got rows sure d = count 103040 (wordBit rest) * 64 + (40 - d)
 
 word-of-requires : tie.Need-word-of-requires Inv-loop μ-loop
 word-of-requires c κs = c .before .before .before .pre .3
@@ -49,7 +49,7 @@ loop-holds c = (
   c .before .before .before .before .before .pre .1,
   omega arith,
   omega arith,
-  omega arith,
+  (omega arith, omega arith, λ l. absurd (omega arith)),
   λ q lq H was A S. (S, closed-start q (c .before .before .before .before .before .args .y) (c .before .before .before .before .before .args .c) (c .before .word-of .result) lq (c .before .word-of .ensures .1 (c .before .before .before .before .before .args .c) (c .before .before .before .before .before .pre .3) (omega arith) (omega arith) .0) (c .before .word-of .ensures .1) (c .before .word-of .ensures .0) was A 1 _ _ S),
 )
 
@@ -87,7 +87,7 @@ loop-less c =
     let k = c .before .before .before .before .before .before .before .before .before .before .before .before .before .before .before .before .before .before .before .before .args .y + 33 + c .before .before .before .before .before .before .before .before .before .before .before .before .before .before .loop .d in
     let e : (c .before .before .before .before .before .before .before .before .before .before .before .before .before .before .before .before .before .before .before .before .args .y + 33) * 5 + c .before .before .before .before .before .before .before .before .before .before .before .before .before .before .before .before .word-of .result + 5 * c .before .before .before .before .before .before .before .before .before .before .before .before .before .before .loop .d ≡ (c .before .before .before .before .before .before .before .before .before .before .before .before .before .before .before .before .before .before .before .before .args .y + 33 + c .before .before .before .before .before .before .before .before .before .before .before .before .before .before .loop .d) * 5 + c .before .before .before .before .before .before .before .before .before .before .before .before .before .before .before .before .word-of .result = omega arith in
     let L = looked-same k (c .before .before .before .before .before .before .before .before .before .before .before .before .before .before .before .before .word-of .result) _ _ _ _ _ _ _ (c .before .before .before .before .before .before .before .before .about .ensures) (c .before .before .before .before .before .before .before .look .ensures k (c .before .before .before .before .before .before .before .before .before .before .before .before .before .before .before .before .word-of .result) e (c .before .before .before .before .before .before .before .before .before .before .before .before .before .before .before .before .word-of .ensures .0)) in
-    omega (arith, count-less k _ _ _ _ _ _ _ L (c .before .before .if2 .taken) (omega (arith, c .before .before .before .before .before .before .before .before .before .before .before .before .before .before .before .before .before .before .before .before .pre .2, half-at _ (c .before .before .before .before .before .before .before .before .before .before .before .before .before .before .loop .d) _ (c .before .before .before .before .before .before .before .before .before .before .before .before .before .before .before .before .before .before .before .before .pre .4) (c .before .before .before .before .before .before .before .before .before .before .before .before .before .before .before .before .before .before .before .before .pre .5) (omega (arith, c .before .before .before .before .before .before .before .before .before .before .before .before .if1 .taken, c .before .before .before .before .before .before .before .before .before .before .before .before .before .lesser .ensures)) .2)) (c .before .before .before .before .before .before .before .before .before .before .before .before .before .before .before .before .word-of .ensures .0), c .before2 .ensures, half-at _ (c .before .before .before .before .before .before .before .before .before .before .before .before .before .before .loop .d) _ (c .before .before .before .before .before .before .before .before .before .before .before .before .before .before .before .before .before .before .before .before .pre .4) (c .before .before .before .before .before .before .before .before .before .before .before .before .before .before .before .before .before .before .before .before .pre .5) (omega (arith, c .before .before .before .before .before .before .before .before .before .before .before .before .if1 .taken, c .before .before .before .before .before .before .before .before .before .before .before .before .before .lesser .ensures)) .2)
+    omega (arith, count-less k _ _ _ _ _ _ _ L (c .before .before .if2 .taken) (omega (arith, c .before .before .before .before .before .before .before .before .before .before .before .before .before .before .before .before .before .before .before .before .pre .2, half-at _ (c .before .before .before .before .before .before .before .before .before .before .before .before .before .before .loop .d) _ (c .before .before .before .before .before .before .before .before .before .before .before .before .before .before .before .before .before .before .before .before .pre .4) (c .before .before .before .before .before .before .before .before .before .before .before .before .before .before .before .before .before .before .before .before .pre .5) (omega (arith, c .before .before .before .before .before .before .before .before .before .before .before .before .if1 .taken, c .before .before .before .before .before .before .before .before .before .before .before .before .before .lesser .ensures)) .2)) (c .before .before .before .before .before .before .before .before .before .before .before .before .before .before .before .before .word-of .ensures .0), c .before .before .before .before .before .before .before .before .before .before .before .before .before .before .loop .inv .4, half-at _ (c .before .before .before .before .before .before .before .before .before .before .before .before .before .before .loop .d) _ (c .before .before .before .before .before .before .before .before .before .before .before .before .before .before .before .before .before .before .before .before .pre .4) (c .before .before .before .before .before .before .before .before .before .before .before .before .before .before .before .before .before .before .before .before .pre .5) (omega (arith, c .before .before .before .before .before .before .before .before .before .before .before .before .if1 .taken, c .before .before .before .before .before .before .before .before .before .before .before .before .before .lesser .ensures)) .2)
 
 loop-again : tie.Need-loop-again Inv-loop μ-loop
 loop-again c =
@@ -99,43 +99,50 @@ loop-again c =
       c .before .before .before .before .before .before .before .look .kept .1 .0 ∙ c .before .before .before .before .before .before .before .before .before .before .before .before .before .before .loop .inv .1,
       omega (arith, c .before .greater .ensures, c .before .before .before .before .before .before .before .before .before .before .before .before .before .before .loop .inv .2),
       omega (arith, c .before .greater .ensures, c .before .before .before .before .before .before .before .before .before .before .before .before .before .before .loop .inv .3, c .before .before .before .before .before .before .before .before .before .before .before .before .if1 .taken, c .before .before .before .before .before .before .before .before .before .before .before .before .before .lesser .ensures),
-      omega (arith, c .before2 .ensures, c .before .before .before .before .before .before .before .before .before .before .before .before .before .before .loop .inv .4),
+      (
+        omega (arith, stepped (c .before .before .before .before .before .before .before .before .before .before .before .before .before .before .loop .d) _ (c .back .ensures)),
+        omega (arith, c .before .before .before .before .before .before .before .before .before .before .before .before .if1 .taken, c .before .before .before .before .before .before .before .before .before .before .before .before .before .lesser .ensures),
+        λ l. (omega (arith, stepped (c .before .before .before .before .before .before .before .before .before .before .before .before .before .before .loop .d) _ (c .back .ensures), c .before .greater .ensures), omega (arith, stepped (c .before .before .before .before .before .before .before .before .before .before .before .before .before .before .loop .d) _ (c .back .ensures), c .before .before .before .before .before .before .before .before .before .before .before .before .if1 .taken, c .before .before .before .before .before .before .before .before .before .before .before .before .before .lesser .ensures)),
+      ),
       λ q lq H was A S.
           let (T, C) = c .before .before .before .before .before .before .before .before .before .before .before .before .before .before .loop .inv .5 q lq H was A S in
           let D = half-at q (c .before .before .before .before .before .before .before .before .before .before .before .before .before .before .loop .d) _ lq H (omega (arith, c .before .before .before .before .before .before .before .before .before .before .before .before .if1 .taken, c .before .before .before .before .before .before .before .before .before .before .before .before .before .lesser .ensures)) in (
             taking-more q (c .before .before .before .before .before .before .before .before .before .before .before .before .before .before .before .before .before .before .before .before .args .y) (c .before .before .before .before .before .before .before .before .before .before .before .before .before .before .before .before .before .before .before .before .args .c) (c .before .before .before .before .before .before .before .before .before .before .before .before .before .before .before .before .word-of .result) lq lb (c .before .before .before .before .before .before .before .before .before .before .before .before .before .before .before .before .word-of .ensures .1) (c .before .before .before .before .before .before .before .before .before .before .before .before .before .before .before .before .word-of .ensures .0) was A (c .before .before .before .before .before .before .before .before .before .before .before .before .before .before .loop .rows) _ _ T (c .before .before .before .before .before .before .before .before .before .before .before .before .before .before .loop .d) _ (D .0) _ _ _ L (c .before .greater .result)
                 (c .before .before .before .before .before .before .before .look .kept .0 ∙ c .before .before .before .before .before .before .before .before .before .before .before .before .before .before .loop .inv .0) (c .before .before .before .before .before .before .before .look .kept .1 .0 ∙ c .before .before .before .before .before .before .before .before .before .before .before .before .before .before .loop .inv .1) (omega (arith, c .before .greater .ensures)) (λ t. omega (arith, c .before .greater .ensures)),
-            rw (c .before2 .ensures) (closed-back q (c .before .before .before .before .before .before .before .before .before .before .before .before .before .before .before .before .before .before .before .before .args .y) (c .before .before .before .before .before .before .before .before .before .before .before .before .before .before .before .before .before .before .before .before .args .c) (c .before .before .before .before .before .before .before .before .before .before .before .before .before .before .before .before .word-of .result) lq lb (c .before .before .before .before .before .before .before .before .before .before .before .before .before .before .before .before .word-of .ensures .1) (c .before .before .before .before .before .before .before .before .before .before .before .before .before .before .before .before .word-of .ensures .0) was A (c .before .before .before .before .before .before .before .before .before .before .before .before .before .before .loop .rows) _ _ T (c .before .before .before .before .before .before .before .before .before .before .before .before .before .before .loop .d) _ (D .0) _ _ _ L C),
+            closed-back q (c .before .before .before .before .before .before .before .before .before .before .before .before .before .before .before .before .before .before .before .before .args .y) (c .before .before .before .before .before .before .before .before .before .before .before .before .before .before .before .before .before .before .before .before .args .c) (c .before .before .before .before .before .before .before .before .before .before .before .before .before .before .before .before .word-of .result) lq lb (c .before .before .before .before .before .before .before .before .before .before .before .before .before .before .before .before .word-of .ensures .1) (c .before .before .before .before .before .before .before .before .before .before .before .before .before .before .before .before .word-of .ensures .0) was A (c .before .before .before .before .before .before .before .before .before .before .before .before .before .before .loop .rows) _ _ T (c .before .before .before .before .before .before .before .before .before .before .before .before .before .before .loop .d) _ (D .0) _ _ _ L _ _ (c .before .before .before .before .before .before .before .before .before .before .before .before .before .before .loop .inv .4 .0) (c .back .ensures) C,
           ),
     )
 
-add-d : tie.Need-add-d Inv-loop μ-loop
-add-d c = omega (arith, half-at _ (c .before .before .before .before .before .before .before .before .before .before .before .before .loop .d) _ (c .before .before .before .before .before .before .before .before .before .before .before .before .before .before .before .before .before .before .pre .4) (c .before .before .before .before .before .before .before .before .before .before .before .before .before .before .before .before .before .before .pre .5) (omega (arith, c .before .before .before .before .before .before .before .before .before .before .if1 .taken, c .before .before .before .before .before .before .before .before .before .before .before .lesser .ensures)) .2)
+add-sure : tie.Need-add-sure Inv-loop μ-loop
+add-sure c = omega (arith, half-at _ (c .before .before .before .before .before .before .before .before .before .before .before .before .before .loop .d) _ (c .before .before .before .before .before .before .before .before .before .before .before .before .before .before .before .before .before .before .before .pre .4) (c .before .before .before .before .before .before .before .before .before .before .before .before .before .before .before .before .before .before .before .pre .5) (omega (arith, c .before .before .before .before .before .before .before .before .before .before .before .if1 .taken, c .before .before .before .before .before .before .before .before .before .before .before .before .lesser .ensures)) .2)
+
+add-greater-2 : tie.Need-add-greater-2 Inv-loop μ-loop
+add-greater-2 c = omega (arith, half-at _ (c .before .before .before .before .before .before .before .before .before .before .before .before .loop .d) _ (c .before .before .before .before .before .before .before .before .before .before .before .before .before .before .before .before .before .before .pre .4) (c .before .before .before .before .before .before .before .before .before .before .before .before .before .before .before .before .before .before .pre .5) (omega (arith, c .before .before .before .before .before .before .before .before .before .before .if1 .taken, c .before .before .before .before .before .before .before .before .before .before .before .lesser .ensures)) .2)
 
 loop-less-2 : tie.Need-loop-less-2 Inv-loop μ-loop
 loop-less-2 c =
-    let k = c .before .before .before .before .before .before .before .before .before .before .before .before .before .before .before .before .before .before .args .y + 33 + c .before .before .before .before .before .before .before .before .before .before .before .before .loop .d in
-    let e : (c .before .before .before .before .before .before .before .before .before .before .before .before .before .before .before .before .before .before .args .y + 33) * 5 + c .before .before .before .before .before .before .before .before .before .before .before .before .before .before .word-of .result + 5 * c .before .before .before .before .before .before .before .before .before .before .before .before .loop .d ≡ (c .before .before .before .before .before .before .before .before .before .before .before .before .before .before .before .before .before .before .args .y + 33 + c .before .before .before .before .before .before .before .before .before .before .before .before .loop .d) * 5 + c .before .before .before .before .before .before .before .before .before .before .before .before .before .before .word-of .result = omega arith in
-    let L = looked-same k (c .before .before .before .before .before .before .before .before .before .before .before .before .before .before .word-of .result) _ _ _ _ _ _ _ (c .before .before .before .before .before .before .about .ensures) (c .before .before .before .before .before .look .ensures k (c .before .before .before .before .before .before .before .before .before .before .before .before .before .before .word-of .result) e (c .before .before .before .before .before .before .before .before .before .before .before .before .before .before .word-of .ensures .0)) in
-    omega (arith, count-same k _ _ _ _ _ _ _ L, half-at _ (c .before .before .before .before .before .before .before .before .before .before .before .before .loop .d) _ (c .before .before .before .before .before .before .before .before .before .before .before .before .before .before .before .before .before .before .pre .4) (c .before .before .before .before .before .before .before .before .before .before .before .before .before .before .before .before .before .before .pre .5) (omega (arith, c .before .before .before .before .before .before .before .before .before .before .if1 .taken, c .before .before .before .before .before .before .before .before .before .before .before .lesser .ensures)) .2)
+    let k = c .before .before .before .before .before .before .before .before .before .before .before .before .before .before .before .before .before .before .before .args .y + 33 + c .before .before .before .before .before .before .before .before .before .before .before .before .before .loop .d in
+    let e : (c .before .before .before .before .before .before .before .before .before .before .before .before .before .before .before .before .before .before .before .args .y + 33) * 5 + c .before .before .before .before .before .before .before .before .before .before .before .before .before .before .before .word-of .result + 5 * c .before .before .before .before .before .before .before .before .before .before .before .before .before .loop .d ≡ (c .before .before .before .before .before .before .before .before .before .before .before .before .before .before .before .before .before .before .before .args .y + 33 + c .before .before .before .before .before .before .before .before .before .before .before .before .before .loop .d) * 5 + c .before .before .before .before .before .before .before .before .before .before .before .before .before .before .before .word-of .result = omega arith in
+    let L = looked-same k (c .before .before .before .before .before .before .before .before .before .before .before .before .before .before .before .word-of .result) _ _ _ _ _ _ _ (c .before .before .before .before .before .before .before .about .ensures) (c .before .before .before .before .before .before .look .ensures k (c .before .before .before .before .before .before .before .before .before .before .before .before .before .before .before .word-of .result) e (c .before .before .before .before .before .before .before .before .before .before .before .before .before .before .before .word-of .ensures .0)) in
+    omega (arith, count-same k _ _ _ _ _ _ _ L, c .greater2 .ensures, half-at _ (c .before .before .before .before .before .before .before .before .before .before .before .before .before .loop .d) _ (c .before .before .before .before .before .before .before .before .before .before .before .before .before .before .before .before .before .before .before .pre .4) (c .before .before .before .before .before .before .before .before .before .before .before .before .before .before .before .before .before .before .before .pre .5) (omega (arith, c .before .before .before .before .before .before .before .before .before .before .before .if1 .taken, c .before .before .before .before .before .before .before .before .before .before .before .before .lesser .ensures)) .2)
 
 loop-again-2 : tie.Need-loop-again-2 Inv-loop μ-loop
 loop-again-2 c =
-    let k = c .before .before .before .before .before .before .before .before .before .before .before .before .before .before .before .before .before .before .args .y + 33 + c .before .before .before .before .before .before .before .before .before .before .before .before .loop .d in
-    let e : (c .before .before .before .before .before .before .before .before .before .before .before .before .before .before .before .before .before .before .args .y + 33) * 5 + c .before .before .before .before .before .before .before .before .before .before .before .before .before .before .word-of .result + 5 * c .before .before .before .before .before .before .before .before .before .before .before .before .loop .d ≡ (c .before .before .before .before .before .before .before .before .before .before .before .before .before .before .before .before .before .before .args .y + 33 + c .before .before .before .before .before .before .before .before .before .before .before .before .loop .d) * 5 + c .before .before .before .before .before .before .before .before .before .before .before .before .before .before .word-of .result = omega arith in
-    let L = looked-same k (c .before .before .before .before .before .before .before .before .before .before .before .before .before .before .word-of .result) _ _ _ _ _ _ _ (c .before .before .before .before .before .before .about .ensures) (c .before .before .before .before .before .look .ensures k (c .before .before .before .before .before .before .before .before .before .before .before .before .before .before .word-of .result) e (c .before .before .before .before .before .before .before .before .before .before .before .before .before .before .word-of .ensures .0)) in
-    let lb = c .before .before .before .before .before .before .before .before .before .before .before .before .before .before .word-of .ensures .1 (c .before .before .before .before .before .before .before .before .before .before .before .before .before .before .before .before .before .before .args .c) (c .before .before .before .before .before .before .before .before .before .before .before .before .before .before .before .before .before .before .pre .3) (omega arith) (omega arith) .0 in (
-      c .before .before .before .before .before .look .kept .0 ∙ c .before .before .before .before .before .before .before .before .before .before .before .before .loop .inv .0,
-      c .before .before .before .before .before .look .kept .1 .0 ∙ c .before .before .before .before .before .before .before .before .before .before .before .before .loop .inv .1,
-      c .before .before .before .before .before .before .before .before .before .before .before .before .loop .inv .2,
-      c .before .before .before .before .before .before .before .before .before .before .before .before .loop .inv .3,
-      omega (arith, c .before .before .before .before .before .before .before .before .before .before .if1 .taken, c .before .before .before .before .before .before .before .before .before .before .before .lesser .ensures),
+    let k = c .before .before .before .before .before .before .before .before .before .before .before .before .before .before .before .before .before .before .before .args .y + 33 + c .before .before .before .before .before .before .before .before .before .before .before .before .before .loop .d in
+    let e : (c .before .before .before .before .before .before .before .before .before .before .before .before .before .before .before .before .before .before .before .args .y + 33) * 5 + c .before .before .before .before .before .before .before .before .before .before .before .before .before .before .before .word-of .result + 5 * c .before .before .before .before .before .before .before .before .before .before .before .before .before .loop .d ≡ (c .before .before .before .before .before .before .before .before .before .before .before .before .before .before .before .before .before .before .before .args .y + 33 + c .before .before .before .before .before .before .before .before .before .before .before .before .before .loop .d) * 5 + c .before .before .before .before .before .before .before .before .before .before .before .before .before .before .before .word-of .result = omega arith in
+    let L = looked-same k (c .before .before .before .before .before .before .before .before .before .before .before .before .before .before .before .word-of .result) _ _ _ _ _ _ _ (c .before .before .before .before .before .before .before .about .ensures) (c .before .before .before .before .before .before .look .ensures k (c .before .before .before .before .before .before .before .before .before .before .before .before .before .before .before .word-of .result) e (c .before .before .before .before .before .before .before .before .before .before .before .before .before .before .before .word-of .ensures .0)) in
+    let lb = c .before .before .before .before .before .before .before .before .before .before .before .before .before .before .before .word-of .ensures .1 (c .before .before .before .before .before .before .before .before .before .before .before .before .before .before .before .before .before .before .before .args .c) (c .before .before .before .before .before .before .before .before .before .before .before .before .before .before .before .before .before .before .before .pre .3) (omega arith) (omega arith) .0 in (
+      c .before .before .before .before .before .before .look .kept .0 ∙ c .before .before .before .before .before .before .before .before .before .before .before .before .before .loop .inv .0,
+      c .before .before .before .before .before .before .look .kept .1 .0 ∙ c .before .before .before .before .before .before .before .before .before .before .before .before .before .loop .inv .1,
+      c .before .before .before .before .before .before .before .before .before .before .before .before .before .loop .inv .2,
+      c .before .before .before .before .before .before .before .before .before .before .before .before .before .loop .inv .3,
+      (omega arith, omega (arith, c .greater2 .ensures, c .before .before .before .before .before .before .before .before .before .before .before .before .before .loop .inv .4, c .before .before .before .before .before .before .before .before .before .before .before .if1 .taken, c .before .before .before .before .before .before .before .before .before .before .before .before .lesser .ensures), λ l. absurd (omega arith)),
       λ q lq H was A S.
-          let (T, C) = c .before .before .before .before .before .before .before .before .before .before .before .before .loop .inv .5 q lq H was A S in
-          let D = half-at q (c .before .before .before .before .before .before .before .before .before .before .before .before .loop .d) _ lq H (omega (arith, c .before .before .before .before .before .before .before .before .before .before .if1 .taken, c .before .before .before .before .before .before .before .before .before .before .before .lesser .ensures)) in (
-            taking-more q (c .before .before .before .before .before .before .before .before .before .before .before .before .before .before .before .before .before .before .args .y) (c .before .before .before .before .before .before .before .before .before .before .before .before .before .before .before .before .before .before .args .c) (c .before .before .before .before .before .before .before .before .before .before .before .before .before .before .word-of .result) lq lb (c .before .before .before .before .before .before .before .before .before .before .before .before .before .before .word-of .ensures .1) (c .before .before .before .before .before .before .before .before .before .before .before .before .before .before .word-of .ensures .0) was A (c .before .before .before .before .before .before .before .before .before .before .before .before .loop .rows) _ _ T (c .before .before .before .before .before .before .before .before .before .before .before .before .loop .d) _ (D .0) _ _ _ L (c .before .before .before .before .before .before .before .before .before .before .before .before .loop .rows)
-                (c .before .before .before .before .before .look .kept .0 ∙ c .before .before .before .before .before .before .before .before .before .before .before .before .loop .inv .0) (c .before .before .before .before .before .look .kept .1 .0 ∙ c .before .before .before .before .before .before .before .before .before .before .before .before .loop .inv .1) (omega arith) (λ t. clash t (c .if2 .left)),
-            closed-next q (c .before .before .before .before .before .before .before .before .before .before .before .before .before .before .before .before .before .before .args .y) (c .before .before .before .before .before .before .before .before .before .before .before .before .before .before .before .before .before .before .args .c) (c .before .before .before .before .before .before .before .before .before .before .before .before .before .before .word-of .result) lq lb (c .before .before .before .before .before .before .before .before .before .before .before .before .before .before .word-of .ensures .1) (c .before .before .before .before .before .before .before .before .before .before .before .before .before .before .word-of .ensures .0) was A (c .before .before .before .before .before .before .before .before .before .before .before .before .loop .rows) _ _ T (c .before .before .before .before .before .before .before .before .before .before .before .before .loop .d) _ (D .0) _ _ _ L (c .if2 .left) C,
+          let (T, C) = c .before .before .before .before .before .before .before .before .before .before .before .before .before .loop .inv .5 q lq H was A S in
+          let D = half-at q (c .before .before .before .before .before .before .before .before .before .before .before .before .before .loop .d) _ lq H (omega (arith, c .before .before .before .before .before .before .before .before .before .before .before .if1 .taken, c .before .before .before .before .before .before .before .before .before .before .before .before .lesser .ensures)) in (
+            taking-more q (c .before .before .before .before .before .before .before .before .before .before .before .before .before .before .before .before .before .before .before .args .y) (c .before .before .before .before .before .before .before .before .before .before .before .before .before .before .before .before .before .before .before .args .c) (c .before .before .before .before .before .before .before .before .before .before .before .before .before .before .before .word-of .result) lq lb (c .before .before .before .before .before .before .before .before .before .before .before .before .before .before .before .word-of .ensures .1) (c .before .before .before .before .before .before .before .before .before .before .before .before .before .before .before .word-of .ensures .0) was A (c .before .before .before .before .before .before .before .before .before .before .before .before .before .loop .rows) _ _ T (c .before .before .before .before .before .before .before .before .before .before .before .before .before .loop .d) _ (D .0) _ _ _ L (c .before .before .before .before .before .before .before .before .before .before .before .before .before .loop .rows)
+                (c .before .before .before .before .before .before .look .kept .0 ∙ c .before .before .before .before .before .before .before .before .before .before .before .before .before .loop .inv .0) (c .before .before .before .before .before .before .look .kept .1 .0 ∙ c .before .before .before .before .before .before .before .before .before .before .before .before .before .loop .inv .1) (omega arith) (λ t. clash t (c .before .if2 .left)),
+            closed-next q (c .before .before .before .before .before .before .before .before .before .before .before .before .before .before .before .before .before .before .before .args .y) (c .before .before .before .before .before .before .before .before .before .before .before .before .before .before .before .before .before .before .before .args .c) (c .before .before .before .before .before .before .before .before .before .before .before .before .before .before .before .word-of .result) lq lb (c .before .before .before .before .before .before .before .before .before .before .before .before .before .before .before .word-of .ensures .1) (c .before .before .before .before .before .before .before .before .before .before .before .before .before .before .before .word-of .ensures .0) was A (c .before .before .before .before .before .before .before .before .before .before .before .before .before .loop .rows) _ _ T (c .before .before .before .before .before .before .before .before .before .before .before .before .before .loop .d) _ (D .0) _ _ _ L (c .before .if2 .left) _ _ (c .before .before .before .before .before .before .before .before .before .before .before .before .before .loop .inv .4 .0) (c .greater2 .ensures) C,
           ),
     )
 
@@ -148,10 +155,11 @@ same-length-2 c = c .before .before .loop .inv .1 ∙ sym (c .before .before .be
 returns : tie.Need-returns Inv-loop μ-loop
 returns c = (
   (λ was A S.
-      let (T, C) = c .before .before .loop .inv .5 _ (c .before .before .before .before .before .before .before .before .pre .4) (c .before .before .before .before .before .before .before .before .pre .5) was A S in (
+      let (T, C) = c .before .before .loop .inv .5 _ (c .before .before .before .before .before .before .before .before .pre .4) (c .before .before .before .before .before .before .before .before .pre .5) was A S in
+      let e : c .before .before .loop .sure ≡ c .before .before .loop .d = ended _ _ _ _ _ (c .before .before .loop .inv .4 .0) (c .before .before .loop .inv .4 .2) (c .before .lesser .ensures) (c .if1 .left) in (
         T,
         closed-end _ (c .before .before .before .before .before .before .before .before .args .y) (c .before .before .before .before .before .before .before .before .args .c) (c .before .before .before .before .word-of .result) (c .before .before .before .before .before .before .before .before .pre .4) (c .before .before .before .before .word-of .ensures .1 (c .before .before .before .before .before .before .before .before .args .c) (c .before .before .before .before .before .before .before .before .pre .3) (omega arith) (omega arith) .0) (c .before .before .before .before .word-of .ensures .1) (c .before .before .before .before .word-of .ensures .0) was A (c .before .before .loop .rows) _ _ T
-            (c .before .before .loop .d) _ (c .before .before .before .before .before .before .before .before .pre .5 .half 0 (omega arith)) (beyond _ _ _ _ (c .before .lesser .ensures) (c .if1 .left)) C,
+            (c .before .before .loop .d) _ (c .before .before .before .before .before .before .before .before .pre .5 .half 0 (omega arith)) (beyond _ _ _ _ (c .before .lesser .ensures) (c .if1 .left)) (rw e at C),
       )),
   omega (arith, c .before .before .loop .inv .3, c .before .before .before .before .before .before .before .before .pre .5 .last),
 )
@@ -160,4 +168,5 @@ pub grow-spec : {M : Type 1} → statement M
 grow-spec =
     tie.close
     (tie.spec Inv-loop μ-loop word-of-requires mul-x sub-x add-i mul-i add-i-2 shared-slice-read-reach loop-holds (λ c κs. search needs) mul-look add-look mul-about shared-slice-read-about
-    about-requires look-requires add-greater (λ c κs. search needs) (λ c κs. search needs) loop-less loop-again add-d loop-less-2 loop-again-2 same-length same-length-2 returns)
+    about-requires look-requires add-greater (λ c κs. search needs) add-sure (λ c κs. search needs) loop-less loop-again add-greater-2 (λ c κs. search needs) loop-less-2 loop-again-2 same-length same-length-2
+    returns)
