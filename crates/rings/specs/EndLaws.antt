@@ -1,25 +1,24 @@
--- Laws of the last wave: the rings are those over the near pixels, and either nothing more is reached, or relaxation goes on.
+-- Laws of the last wave: the rings are those over the near pixels, and either nothing more is reached, or sweeps go on.
 use mathlib.Core.Path.{_≡_, refl, sym, ap, _∙_}
 use mathlib.Core.List.{List}
 use mathlib.Core.Bool.{Bool, true, false, not, _&&_, _||_, false≢true}
 use mathlib.Core.Logic.{_⊎_, ⊎-elim}
 use Prim.Native.Nat.{ℕ, zero, suc, _*_, _≤_, _<_, _/_, _%_}
 use native.Mathlib.Omega.{arith}
-use borrow.Author.Tests.{eq-eqb, ne-eqb, lt-ltb, le-ltb}
+use borrow.Author.Tests.{eq-eqb, ne-eqb, eqb-true, lt-ltb, le-ltb}
 use lib.Dec.{ltb, eqb, leb}
 use lib.ListN.{getD, length}
 use lib.Seq.{ext-getD}
 use Rattle.rules.specs.Images.{Plane}
 use Rattle.rules.specs.Reach.{distance², square, root, mostBound}
 use Rattle.laws.specs.Discs.{root-low, root-most, root-small}
-use Rattle.rules.specs.Planning.{touch, touching, source, near, grown}
+use Rattle.rules.specs.Planning.{touch, source, near, grown}
 use Rattle.laws.specs.Growing.{bounded, born, path, grown-same, after-zero, length-grown}
 use Rattle.laws.specs.Tests.{split, clash, bool-eq, and-l, and-r, and-in, and-false, and-true, some-in, some-out}
 use Rattle.laws.specs.Waves.{joined-free, grown-within, near-itself}
 use Rattle.words.specs.Words.{wordBit}
-use Rattle.planes.specs.PlaneLaws.{plane-max, seen-is, fresh-in}
-use Rattle.planes.specs.Scratch.{spot, Sizes, Ready, Drawn, seen, fresh}
-use Rattle.planes.specs.TouchLaws.{touching-out, touching-same, fresh-seen}
+use Rattle.planes.specs.PlaneLaws.{plane-max, seen-is}
+use Rattle.planes.specs.Scratch.{spot, Sizes, Ready, Drawn, seen}
 use Rattle.waves.specs.Fronts.{WavePlanes, Waved}
 use Rattle.waves.specs.Rows.{Room, Still}
 use Rattle.waves.specs.WaveLaws.{room-within}
@@ -64,28 +63,23 @@ near-waved w h q k low over seed front left left' got ring D near-left = record 
     turn true false c = sym (and-false c)
     turn true true c = sym (and-true c)
 
--- relaxation over a plane after k waves
+-- a plane after k waves
 module _ (w h k : ℕ) (over seed : Plane) (front left ring : List ℕ) (z : Sizes w h) (pos : 0 < k) (ap' : Apart w h over seed)
     (rings : ring ≡ grown (h * w) (touch w) over seed k) (fronts : (p : ℕ) → p < h * w → seen w front p ≡ source seed (λ o. getD ring o 0) k p)
     (still-left : (p : ℕ) → p < h * w → over p ≡ true → getD ring p 0 ≡ 0 → seen w left p ≡ true) where
   frame : Frame w h over seed
   frame = record { apart = ap'; room = plane-max w h z }
 
-  front-touching : (p : ℕ) → touching (h * w) (touch w) (source seed (λ o. getD ring o 0) k) p ≡ true → touching (h * w) (touch w) (seen w front) p ≡ true
-  front-touching p t = touching-same w h (seen w front) (source seed (λ o. getD ring o 0) k) fronts p ∙ t
-
-  -- nothing that is left touches the front: these are the rings
-  closed : ((p : ℕ) → p < h * w → seen w left p ≡ true → touching (h * w) (touch w) (seen w front) p ≡ true → ⊥) → ring ≡ grown (h * w) (touch w) over seed (h * w)
+  -- no pixel that is left touches the front: these are the rings
+  closed : ((p q : ℕ) → p < h * w → q < h * w → seen w left p ≡ true → touch w p q ≡ true → seen w front q ≡ true → ⊥) → ring ≡ grown (h * w) (touch w) over seed (h * w)
   closed none =
       at-rest w h over seed (λ p. ltb 0 (getD ring p 0)) frame ring (λ p. false)
       (waves-sweeping w h over seed frame k pos ring rings (λ p. false)
-      (λ p lp f e t. absurd (none p lp (still-left p lp f e) (front-touching p t))) (λ p lp e. absurd (false≢true e)))
+      (λ p q lp lq f e t s. absurd (none p q lp lq (still-left p lp f e) t (fronts q lq ∙ s))) (λ p lp e. absurd (false≢true e)))
       (λ p lp. refl)
 
   closed-still : Still front left → ring ≡ grown (h * w) (touch w) over seed (h * w)
-  closed-still s = closed (λ p lp a t.
-      let (o, lo, u, b) = touching-out w h (seen w front) p t in
-      s (spot (o / w) (o % w)) (spot (p / w) (p % w)) (sym (seen-is w h z front o) ∙ b) (sym (seen-is w h z left p) ∙ a))
+  closed-still s = closed (λ p q lp lq a t b. s (spot (q / w) (q % w)) (spot (p / w) (p % w)) (sym (seen-is w h z front q) ∙ b) (sym (seen-is w h z left p) ∙ a))
 
 -- no wave goes on, before the far pixels are dropped
 pub landed-whole : (w h q k : ℕ) (low over seed : Plane) (front left got ring : List ℕ) → Sizes w h → NearWaves w h q k low over seed front left got ring → Still front left
@@ -108,25 +102,9 @@ whole-still w h k over seed front left got ring z pos ap' W s = record {
   gots = W .gots;
 }
 
--- what is left and touches the front is marked
+-- sweeps go on from the front
 module _ (w h k : ℕ) (over seed : Plane) (ahead front left got ring : List ℕ) (A : WavePlanes w h ahead front left got ring) (pos : 0 < k) (ap' : Apart w h over seed)
     (W : Waved w h k over seed front left got ring) where
-  left-over : (p : ℕ) → p < h * w → over p ≡ true → getD ring p 0 ≡ 0 → seen w left p ≡ true
-  left-over p lp a e = W .lefts p lp ∙ and-in (over p) _ a (eq-eqb (getD ring p 0) 0 e)
-
-  marks-seen : (marks : List ℕ) → ((j : ℕ) → wordBit marks j ≡ fresh front left j) → (p : ℕ) → p < h * w → seen w marks p ≡ (seen w left p && touching (h * w) (touch w) (seen w front) p)
-  marks-seen marks m p lp =
-      seen-is w h (A .sizes) marks p ∙ m (spot (p / w) (p % w)) ∙ sym (fresh-seen w h (A .sizes) front left (A .front-ready .framed) (A .left-room .ready .framed) (A .apart) p lp)
-      ∙ ap (λ (b : Bool). b && touching (h * w) (touch w) (seen w front) p) (sym (seen-is w h (A .sizes) left p))
-
-  pub whole-fresh : ((j : ℕ) → fresh front left j ≡ false) → Whole w h over seed got ring
-  whole-fresh none = record {
-    rings = closed w h k over seed front left ring (A .sizes) pos ap' (W .rings) (W .fronts) left-over (λ p lp a t. clash
-        (and-in _ _ (sym (seen-is w h (A .sizes) left p) ∙ a) t)
-        (fresh-seen w h (A .sizes) front left (A .front-ready .framed) (A .left-room .ready .framed) (A .apart) p lp ∙ none (spot (p / w) (p % w))));
-    gots = W .gots;
-  }
-
   left-later : (p : ℕ) → p < h * w → seen w left p ≡ later over (λ p. ltb 0 (getD ring p 0)) p
   unfolding later
   left-later p lp = W .lefts p lp ∙ ap (λ (b : Bool). over p && b) (turn (getD ring p 0))
@@ -135,27 +113,33 @@ module _ (w h k : ℕ) (over seed : Plane) (ahead front left got ring : List ℕ
       turn zero = eq-eqb 0 0 refl ∙ sym (ap not (le-ltb 0 0 (omega arith)))
       turn (suc v) = ne-eqb (suc v) 0 (λ (x : suc v ≡ 0). omega arith) ∙ sym (ap not (lt-ltb 0 (suc v) (omega arith)))
 
-  pub relaxes : (marks : List ℕ) → ((j : ℕ) → wordBit marks j ≡ fresh front left j) → Grows w h over seed (λ p. ltb 0 (getD ring p 0)) ring marks got left
-  relaxes marks m = record {
+  front-ring : (q : ℕ) → q < h * w → seen w front q ≡ true → 0 < getD ring q 0
+  unfolding source
+  front-ring q lq e = let x : getD ring q 0 ≡ k = eqb-true (getD ring q 0) k (and-l (eqb (getD ring q 0) k) _ (sym (W .fronts q lq) ∙ e)) in omega arith
+
+  pub sweeps-on : Grows w h over seed (λ p. ltb 0 (getD ring p 0)) ring front got left
+  sweeps-on = record {
     frame = record { apart = ap'; room = plane-max w h (A .sizes) };
-    sweeping = waves-sweeping w h over seed (record { apart = ap'; room = plane-max w h (A .sizes) }) k pos ring (W .rings) (seen w marks)
-        (λ p lp f e t. marks-seen marks m p lp ∙ and-in _ _ (left-over p lp f e) (front-touching w h k over seed front left ring (A .sizes) pos ap' (W .rings) (W .fronts) left-over p t))
-        (λ p lp e. sym (left-later p lp) ∙ and-l (seen w left p) _ (sym (marks-seen marks m p lp) ∙ e));
+    sweeping = waves-sweeping w h over seed (record { apart = ap'; room = plane-max w h (A .sizes) }) k pos ring (W .rings) (seen w front)
+        (λ p q lp lq f e t s. W .fronts q lq ∙ s) front-ring;
     cands = left-later;
     gots = W .gots;
   }
 
-pub kit-of : (w h : ℕ) (ahead front left got ring marks : List ℕ) → WavePlanes w h ahead front left got ring → length marks ≡ 1610 → ((j : ℕ) → wordBit marks j ≡ fresh front left j) →
-    SweepPlanes w h ring marks got left
-kit-of w h ahead front left got ring marks A e m = record {
+pub kit-of : (w h : ℕ) (ahead front left got ring : List ℕ) → WavePlanes w h ahead front left got ring → SweepPlanes w h ring front got left
+kit-of w h ahead front left got ring A = record {
   sizes = A .sizes;
   ring-long = A .ring-long;
-  marks-long = e;
+  marks-long = A .front-ready .long;
   got-long = A .got-room .ready .long;
   cand-long = A .left-room .ready .long;
   cand-framed = A .left-room .ready .framed;
-  marks-in = λ j u. fresh-in front left j (sym (m j) ∙ u);
+  marks-framed = A .front-ready .framed;
 }
+
+-- a plane without a bit is room for any rows
+pub room-none : (w h : ℕ) (ahead l : List ℕ) → length l ≡ 1610 → ((j : ℕ) → wordBit l j ≡ false) → Room w h ahead l
+room-none w h ahead l e none = record { ready = record { long = e; framed = λ j u. clash u (none j) }; sparse = λ k j x y z. none j }
 
 -- got stays room for pixels of the rows that are gone to
 pub room-joined : (w h : ℕ) (ahead a b l : List ℕ) → length l ≡ 1610 → Room w h ahead a → Room w h ahead b → ((j : ℕ) → wordBit l j ≡ true → (wordBit a j ≡ true) ⊎ (wordBit b j ≡ true)) →

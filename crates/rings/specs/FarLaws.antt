@@ -1,5 +1,5 @@
--- Laws of the loops over rows: the far pixels dropped, and what touches the front marked.
-use mathlib.Core.Path.{_≡_, refl, sym, ap, ap₂, subst, _∙_}
+-- Laws of the loop over rows: the far pixels dropped.
+use mathlib.Core.Path.{_≡_, refl, sym, ap, ap₂, _∙_}
 use mathlib.Core.Bool.{Bool, true, false, _&&_}
 use mathlib.Core.List.{List}
 use Prim.Native.Nat.{ℕ, _+_, _-_, _*_, _/_, _%_, _<_, _≤_}
@@ -10,8 +10,8 @@ use lib.ListN.{getD}
 use Rattle.rules.specs.Planning.{near}
 use Rattle.laws.specs.Tests.{split, and-l}
 use Rattle.words.specs.Words.{wordBit}
-use Rattle.planes.specs.PlaneLaws.{seen-is, pixel-row, row-bit, fresh-none, framed-row}
-use Rattle.planes.specs.Scratch.{spot, Sizes, Framed, seen, fresh, rowBit, RowPut}
+use Rattle.planes.specs.PlaneLaws.{seen-is, pixel-row, row-bit, framed-row}
+use Rattle.planes.specs.Scratch.{spot, Sizes, Framed, seen, rowBit, RowPut}
 use Rattle.waves.specs.RowLaws.{put-bits, kept-bits, upto-row, gap-none, none-before, none-behind}
 use Rattle.waves.specs.Rows.{Room, RowBits, Upto}
 use Rattle.rings.specs.NearRings.{nearBits}
@@ -79,44 +79,6 @@ near-seen w h q z low left left' e p lp =
 pub near-sub : (w h q : ℕ) (low left left' : List ℕ) → ((j : ℕ) → wordBit left' j ≡ nearBits w h q low left j) → (j : ℕ) → wordBit left' j ≡ true → wordBit left j ≡ true
 unfolding nearBits
 near-sub w h q low left left' e j u = and-l (wordBit left j) _ (sym (e j) ∙ u)
-
--- what touches the front, row by row
-module _ (w h : ℕ) (ahead front left marks : List ℕ) (z : Sizes w h) (Rl : Room w h ahead left) (Rm : Room w h ahead marks) where
-  pub mark-start : Upto (getD ahead 0 0) (fresh front left) marks marks
-  mark-start = record { inner = λ j x. none-before w h j ahead marks z Rm x ∙ sym (fresh-none front left j (none-before w h j ahead left z Rl x)); outer = λ j x. refl }
-
-  pub mark-more : (y y' : ℕ) (x : ℕ → Bool) (mid now : List ℕ) → y < h → y < y' → y' ≡ getD ahead (y + 1) 0 → ((c : ℕ) → c < 256 → x c ≡ fresh front left ((y + 33) * 320 + c)) →
-      RowPut (y + 33) x mid now
-      → Upto y (fresh front left) marks mid → Upto y' (fresh front left) marks now
-  mark-more y y' x mid now ly lt e X P U =
-      upto-row y y' (fresh front left) (fresh front left) marks mid now (put-bits (y + 33) x (fresh front left) mid now X P) (λ j a b. refl) U
-      (λ j a b. fresh-none front left j (gap-none w h y y' j ahead left z Rl ly e a b) ∙ sym (gap-none w h y y' j ahead marks z Rm ly e a b)) lt
-
-  pub mark-all : (y : ℕ) (now : List ℕ) → h ≤ y → Upto y (fresh front left) marks now → (j : ℕ) → wordBit now j ≡ fresh front left j
-  mark-all y now l U j = elim (decLt j ((y + 33) * 320)) [
-    | yes a ↦ U .inner j a
-    | no a ↦ U .outer j (omega arith) ∙ none-behind w h j marks z (Rm .ready) (omega arith) ∙ sym (fresh-none front left j (none-behind w h j left z (Rl .ready) (omega arith)))
-  ]
-
-  -- no row so far has a new pixel
-  pub none-yet : (y y' : ℕ) (x : ℕ → Bool) → y < h → y' ≡ getD ahead (y + 1) 0 → ((c : ℕ) → c < 256 → x c ≡ fresh front left ((y + 33) * 320 + c)) → ((c : ℕ) → x c ≡ false)
-      → ((j : ℕ) → j < (y + 33) * 320 → fresh front left j ≡ false) → (j : ℕ) → j < (y' + 33) * 320 → fresh front left j ≡ false
-  none-yet y y' x ly e X n f j l = elim (decLt j ((y + 33) * 320)) [
-    | yes a ↦ f j a
-    | no a ↦ elim (decLt j ((y + 33) * 320 + 256)) [
-      | yes b ↦
-          let c : ℕ = j - (y + 33) * 320 in
-          let q : (y + 33) * 320 + c ≡ j = omega arith in
-          subst (λ (i : ℕ). fresh front left i ≡ false) q (sym (X c (omega arith)) ∙ n c)
-      | no b ↦ fresh-none front left j (gap-none w h y y' j ahead left z Rl ly e (omega arith) l)
-    ]
-  ]
-
-  pub none-all : (y : ℕ) → h ≤ y → ((j : ℕ) → j < (y + 33) * 320 → fresh front left j ≡ false) → (j : ℕ) → fresh front left j ≡ false
-  none-all y l f j = elim (decLt j ((y + 33) * 320)) [
-    | yes a ↦ f j a
-    | no a ↦ fresh-none front left j (none-behind w h j left z (Rl .ready) (omega arith))
-  ]
 
 -- what is done so far has only pixels of what was left
 pub near-mid : (w h q y : ℕ) (low left mid : List ℕ) → Framed w h left → Upto y (nearBits w h q low left) left mid → Framed w h mid

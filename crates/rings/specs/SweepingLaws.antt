@@ -1,4 +1,4 @@
--- Laws of relaxation that goes on where the last wave stood.
+-- Laws of sweeps that go on where the last wave stood.
 use mathlib.Core.Path.{_≡_, refl, sym, ap, ap₂, subst, _∙_}
 use mathlib.Core.List.{List, [], _∷_}
 use mathlib.Core.Bool.{Bool, true, false, _&&_}
@@ -13,8 +13,8 @@ use Rattle.rules.specs.Images.{Plane}
 use Rattle.rules.specs.Planning.{touch, touching, source, grown}
 use Rattle.rules.specs.Tools.{bit, count}
 use Rattle.laws.specs.Growing.{after, bounded, born, path, complete, crowd, has, keep-to, length-grown, source-ring}
-use Rattle.laws.specs.Tests.{clash, and-l, and-r, and-in, some-in, some-out, count-le, count-mono}
-use Rattle.sweeps.specs.Rings.{level, sumBy, one, later, Frame, Sweeping}
+use Rattle.laws.specs.Tests.{clash, and-l, and-r, some-out, count-le, count-mono}
+use Rattle.sweeps.specs.Rings.{level, sumBy, one, Frame, Sweeping}
 
 count-front : (n : ℕ) (f : ℕ → Bool) → count (suc n) f ≡ bit (f 0) + count n (λ x. f (suc x))
 unfolding count
@@ -77,25 +77,23 @@ module _ (w h : ℕ) (free seed : Plane) (fr : Frame w h free seed) (k : ℕ) (s
   ]
 
   module _ (M : Plane)
-      (out : (p : ℕ) → p < h * w → free p ≡ true → after (h * w) (touch w) free seed k p ≡ 0 → touching (h * w) (touch w) (source seed (after (h * w) (touch w) free seed k) k) p ≡ true →
-      M p ≡ true)
-      (in' : (p : ℕ) → p < h * w → M p ≡ true → later free (λ p. ltb 0 (after (h * w) (touch w) free seed k p)) p ≡ true) where
-    rests : (p : ℕ) → p < h * w → free p ≡ true → M p ≡ false → (q : ℕ) → q < h * w → touch w p q ≡ true
+      (out : (p q : ℕ) → p < h * w → q < h * w → free p ≡ true → after (h * w) (touch w) free seed k p ≡ 0 → touch w p q ≡ true → source seed (after (h * w) (touch w) free seed k) k q ≡ true → M q ≡ true)
+      (in' : (q : ℕ) → q < h * w → M q ≡ true → 0 < after (h * w) (touch w) free seed k q) where
+    tells : (q : ℕ) → q < h * w → M q ≡ false → (p : ℕ) → p < h * w → free p ≡ true → touch w p q ≡ true
         → (a : ℕ) → after (h * w) (touch w) free seed k p ≡ a → (b : ℕ) → after (h * w) (touch w) free seed k q ≡ b → level a ≤ level b + 1
-    unfolding touching
-    rests p lp f e q lq t zero ea zero eb = omega arith
-    rests p lp f e q lq t zero ea (suc b) eb = elim (ℕ-discrete (suc b) k) [
+    tells q lq e p lp f t zero ea zero eb = omega arith
+    tells q lq e p lp f t zero ea (suc b) eb = elim (ℕ-discrete (suc b) k) [
       | yes x ↦
           let s : source seed (after (h * w) (touch w) free seed k) k q ≡ true =
           subst (λ (n : ℕ). source seed (after (h * w) (touch w) free seed k) n q ≡ true) x (source-ring seed (after (h * w) (touch w) free seed k) b q eb) in
-          clash (out p lp f ea (some-in (h * w) (λ o. touch w p o && source seed (after (h * w) (touch w) free seed k) k o) q lq (and-in (touch w p q) _ t s))) e
+          clash (out p q lp lq f ea t s) e
       | no x ↦
           let l : suc (suc b) ≤ k = omega (arith, bounded (h * w) (touch w) free seed k q lq) in
           absurd (omega (arith, in-time p (suc (suc b)) lp l (onward f lq t (ring-path q b lq eb))))
     ]
-    rests p lp f e q lq t (suc a) ea zero eb =
+    tells q lq e p lp f t (suc a) ea zero eb =
         omega (arith, crowd (h * w) (touch w) free seed a p lp (born (h * w) (touch w) free seed k p a lp ea), count-le (h * w) (has (h * w) (touch w) free seed (suc a)), fr .room)
-    rests p lp f e q lq t (suc a) ea (suc b) eb = omega (arith, least-ring p lp (suc (suc b)) (onward f lq t (ring-path q b lq eb)))
+    tells q lq e p lp f t (suc a) ea (suc b) eb = omega (arith, least-ring p lp (suc (suc b)) (onward f lq t (ring-path q b lq eb)))
 
     sweeping-on : Sweeping w h free seed (λ p. ltb 0 (after (h * w) (touch w) free seed k p)) (grown (h * w) (touch w) free seed k) M
     unfolding touching
@@ -107,7 +105,7 @@ module _ (w h : ℕ) (free seed : Plane) (fr : Frame w h free seed) (k : ℕ) (s
           let (o, lo, u) = some-out (h * w) (λ o. touch w p o && seed o) t in
           lt-ltb 0 (after (h * w) (touch w) free seed k p) (in-time p 1 lp (omega arith) (start f lo (and-l (touch w p o) _ u) (and-r (touch w p o) _ u)) .0);
       sure = λ p lp e. (ltb-true 0 (after (h * w) (touch w) free seed k p) e, least-ring p lp);
-      rest = λ p lp f e q lq t. rests p lp f e q lq t (after (h * w) (touch w) free seed k p) refl (after (h * w) (touch w) free seed k q) refl;
+      told = λ q lq e p lp f t. tells q lq e p lp f t (after (h * w) (touch w) free seed k p) refl (after (h * w) (touch w) free seed k q) refl;
       marked = in';
     }
       where
@@ -117,11 +115,11 @@ module _ (w h : ℕ) (free seed : Plane) (fr : Frame w h free seed) (k : ℕ) (s
 
   -- the same of any list that has these rings
   pub waves-sweeping : (l : List ℕ) → l ≡ grown (h * w) (touch w) free seed k → (M : Plane)
-      → ((p : ℕ) → p < h * w → free p ≡ true → getD l p 0 ≡ 0 → touching (h * w) (touch w) (source seed (λ o. getD l o 0) k) p ≡ true → M p ≡ true)
-      → ((p : ℕ) → p < h * w → M p ≡ true → later free (λ p. ltb 0 (getD l p 0)) p ≡ true)
+      → ((p q : ℕ) → p < h * w → q < h * w → free p ≡ true → getD l p 0 ≡ 0 → touch w p q ≡ true → source seed (λ o. getD l o 0) k q ≡ true → M q ≡ true)
+      → ((q : ℕ) → q < h * w → M q ≡ true → 0 < getD l q 0)
       → Sweeping w h free seed (λ p. ltb 0 (getD l p 0)) l M
   waves-sweeping l e M =
       subst (λ (x : List ℕ).
-      ((p : ℕ) → p < h * w → free p ≡ true → getD x p 0 ≡ 0 → touching (h * w) (touch w) (source seed (λ o. getD x o 0) k) p ≡ true → M p ≡ true)
-      → ((p : ℕ) → p < h * w → M p ≡ true → later free (λ p. ltb 0 (getD x p 0)) p ≡ true)
+      ((p q : ℕ) → p < h * w → q < h * w → free p ≡ true → getD x p 0 ≡ 0 → touch w p q ≡ true → source seed (λ o. getD x o 0) k q ≡ true → M q ≡ true)
+      → ((q : ℕ) → q < h * w → M q ≡ true → 0 < getD x q 0)
       → Sweeping w h free seed (λ p. ltb 0 (getD x p 0)) x M) (sym e) (sweeping-on M)

@@ -1,7 +1,6 @@
-// A plane read from packed bytes, the far pixels of what is left, and those that touch the front.
+// A plane read from packed bytes, and the far pixels of what is left.
 use rules::Bound;
 ghost use mathlib.Core.Path.{_≡_};
-ghost use mathlib.Core.Bool.{false};
 ghost use Prim.Native.Nat.{ℕ, _+_, _*_, _<_, _≤_};
 ghost use lib.ListN.{length};
 ghost use Rattle.rules.specs.Images.{rowBytes};
@@ -9,7 +8,7 @@ ghost use Rattle.rules.specs.Reach.{mostBound};
 ghost use Rattle.laws.specs.Discs.{Halves};
 ghost use Rattle.image.specs.Rows.{packed, Clean};
 ghost use Rattle.words.specs.Words.{wordBit};
-ghost use Rattle.planes.specs.Scratch.{Sizes, Framed, Ready, Drawn, fresh};
+ghost use Rattle.planes.specs.Scratch.{Sizes, Framed, Ready, Drawn};
 ghost use Rattle.waves.specs.Rows.{Aheads, Room, RowBits};
 ghost use Rattle.rings.specs.NearRings.{nearBits};
 
@@ -57,28 +56,4 @@ pub fn drop_far(
         drop_row(low, left, y, half, q);
         y = ahead[y + 1];
     }
-}
-
-// Marks the pixels that are left and touch the front; false where there are none.
-pub fn mark(
-    front: &[u64],
-    left: &[u64],
-    marks: &mut [u64],
-    ahead: &[usize],
-    w: usize,
-    h: usize,
-) -> bool
-    requires { ⌜ Sizes w h × Aheads h (now ahead) × Ready w h (now front) × Room w h (now ahead) (now left) × Room w h (now ahead) (now marks) ⌝ }
-    ensures { λ _. ⌜ ((j : ℕ) → wordBit (now (marks .exit)) j ≡ fresh (now (front .entry)) (now (left .entry)) j) ⌝ }
-    ensures { λ d. ⌜ (d ≡ false → (j : ℕ) → fresh (now (front .entry)) (now (left .entry)) j ≡ false) ⌝ }
-{
-    let mut some = false;
-    let mut y = ahead[0];
-    while y < h {
-        let now = planes::rows::fresh_row(front, left, y + 33);
-        planes::rows::put(marks, y + 33, now);
-        some = numbers::either(some, words::rows::any(now));
-        y = ahead[y + 1];
-    }
-    some
 }

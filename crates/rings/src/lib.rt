@@ -3,15 +3,13 @@ pub mod far;
 
 use rules::Bound;
 ghost use mathlib.Core.Path.{_≡_};
-ghost use mathlib.Core.Bool.{Bool, true, false};
-ghost use Prim.Native.Nat.{ℕ, _+_, _*_, _<_, _≤_};
-ghost use lib.ListN.{length, getD};
+ghost use mathlib.Core.Bool.{Bool, true};
+ghost use Prim.Native.Nat.{ℕ, _*_, _<_, _≤_};
 ghost use Rattle.rules.specs.Images.{rowBytes};
 ghost use Rattle.rules.specs.Reach.{mostBound};
 ghost use Rattle.laws.specs.Discs.{Halves};
 ghost use Rattle.image.specs.Rows.{packed, Clean};
-ghost use Rattle.words.specs.Words.{Ones, wordBit};
-ghost use Rattle.planes.specs.Scratch.{seen};
+ghost use Rattle.words.specs.Words.{Ones};
 ghost use Rattle.waves.specs.Fronts.{WavePlanes, Waved};
 ghost use Rattle.waves.specs.Rows.{Room};
 ghost use Rattle.rings.specs.NearRings.{Apart, NearWaves, NearBy, Rooms, Whole, nearIn};
@@ -33,13 +31,10 @@ fn finish(
     ensures { λ _. ⌜ ((k : ℕ) → (over seed : ℕ → Bool) → 0 < k → Apart w h over seed → Waved w h k over seed (now (front .entry)) (now (left .entry)) (now (got .entry)) (now (ring .entry)) →
         Whole w h over seed (now (got .exit)) (now (ring .exit))) ⌝ }
 {
-    if !crate::far::mark(front, left, marks, ahead, w, h) {
-        return;
-    }
-    sweeps::sweeps::settle(ring, marks, got, left, w, h);
+    sweeps::sweeps::settle(ring, front, marks, got, left, w, h);
 }
 
-// Drops what is far, and goes on after k waves: by waves while each has new pixels in 16 rows or more, and then by relaxation.
+// Drops what is far, and goes on after k waves: by waves while each has new pixels in 6 rows or more, and then by sweeps.
 fn farther(
     low: &[u8],
     ring: &mut [u16],
@@ -66,20 +61,7 @@ fn farther(
 {
     crate::far::read_plane(low, lower, w, h, n);
     crate::far::drop_far(lower, left, ahead, w, h, q, half);
-    let r = waves::waves::waves(
-        ring,
-        front,
-        next,
-        left,
-        got,
-        ahead,
-        w,
-        h,
-        k,
-        65535,
-        16,
-        ones,
-    );
+    let r = waves::waves::waves(ring, front, next, left, got, ahead, w, h, k, 65535, 6, ones);
     if r == 0 {
         return;
     }

@@ -1,4 +1,4 @@
--- Laws of single bits set and cleared, and of marks joined three at a time.
+-- Laws of single bits set and cleared, and of the words that a bit and those beside it stand in.
 use mathlib.Core.Path.{_≡_, refl, sym, ap, _∙_}
 use mathlib.Core.List.{List}
 use mathlib.Core.Bool.{Bool, true, not, _&&_, _||_}
@@ -6,21 +6,21 @@ use mathlib.Core.Logic.{_⊎_, inl, inr, ⊎-elim}
 use Prim.Native.Nat.{ℕ, suc, _+_, _-_, _*_, _^_, _≤_, _<_}
 use native.Mathlib.Decide.{ℕ-discrete, decLt}
 use native.Mathlib.Omega.{arith}
-use borrow.Author.Tests.{ne-eqb, eq-eqb, le-leb}
+use borrow.Author.Tests.{ne-eqb, eq-eqb}
 use lib.Bits.{bitAnd, bitOr, and-le-l}
-use lib.Dec.{leb, eqb}
+use lib.Dec.{eqb}
 use lib.ListN.{length, getD, set}
 use lib.Seq.{getD-set-same}
-use Rattle.laws.specs.Tests.{clash, and-r, and-in, and-true, and-false, or-l, or-r, or-out, or-false}
+use Rattle.laws.specs.Tests.{clash, and-true, and-false, or-r, or-false}
 use Rattle.words.specs.Words.{wordBit, Digits, beside, Within}
-use Rattle.words.specs.Digits.{digits-zero, digits-and, digits-or}
+use Rattle.words.specs.Digits.{digits-zero, digits-or}
 use Rattle.words.specs.RowLaws.{digits-but-not, Spreads}
 use Rattle.words.specs.WordLaws.{digits-here, filling-none, filling-more, filling-all}
-use Rattle.sweeps.specs.Marks.{Cleared, Lit, Marked}
+use Rattle.sweeps.specs.Marks.{Cleared, Lit}
 
 -- one word changed ------------------------------------------------------------------------------------------------------
 
-pub set-word : (l : List ℕ) (i v : ℕ) (g : ℕ → Bool) → i < length l → Digits 64 v (i * 64) g → Within (i * 64) ((i + 1) * 64) g (wordBit l) (wordBit (set l i v))
+set-word : (l : List ℕ) (i v : ℕ) (g : ℕ → Bool) → i < length l → Digits 64 v (i * 64) g → Within (i * 64) ((i + 1) * 64) g (wordBit l) (wordBit (set l i v))
 set-word l i v g h X = filling-all 64 i (i + 1) g (set l i v) l (omega arith) (filling-more 64 i i v g l l (omega arith) h (filling-none 64 i g l) X)
 
 module _ (l : List ℕ) (i k b : ℕ) (h : i < length l) (s : getD l i 0 < 2 ^ 64) (lk : k < 64) (B : (a : ℕ) → Digits 64 b a (λ j. eqb j (a + k))) where
@@ -72,45 +72,6 @@ module _ (l : List ℕ) (i k b : ℕ) (h : i < length l) (s : getD l i 0 < 2 ^ 6
       W = set-word l i _ (λ j. wordBit l j || eqb j (i * 64 + k)) h
           (digits-or 64 (getD l i 0) b (i * 64) (i * 64) (i * 64) (wordBit l) (λ j. eqb j (i * 64 + k)) (λ j. wordBit l j || eqb j (i * 64 + k)) (digits-here 64 l i s) (B (i * 64)) (λ x y. refl))
 
--- the marks of one word, joined by those of cand at t and beside it
-pub record Joined1 (t i : ℕ) (cand was out : List ℕ) : Type 0 where
-  pub adds : (j : ℕ) → i * 64 ≤ j → j < (i + 1) * 64 → t ≤ j + 1 → j ≤ t + 1 → wordBit cand j ≡ true → wordBit out j ≡ true
-  pub keeps : (j : ℕ) → wordBit was j ≡ true → wordBit out j ≡ true
-  pub only : (j : ℕ) → wordBit out j ≡ true → (wordBit was j ≡ true) ⊎ (wordBit cand j ≡ true)
-
-pub joined1 : (t i x : ℕ) (cand was : List ℕ) → i < length was → getD was i 0 < 2 ^ 64 → getD cand i 0 < 2 ^ 64 → Digits 64 x (i * 64) (beside 1 (λ j. eqb j t))
-    → Joined1 t i cand was (set was i (bitOr (getD was i 0) (bitAnd x (getD cand i 0))))
-unfolding beside
-joined1 t i x cand was h sw sc X = record {
-  adds = λ j a b lo hi u. W .inner j a b ∙ or-r (wordBit was j) _ (and-in _ _ (next j lo hi) u);
-  keeps = λ j u. elim (decLt j (i * 64)) [
-    | yes a ↦ W .before j a ∙ u
-    | no a ↦ elim (decLt j ((i + 1) * 64)) [ yes b ↦ W .inner j (omega arith) b ∙ or-l (wordBit was j) _ u | no b ↦ W .behind j (omega arith) ∙ u ]
-  ];
-  only = λ j u. elim (decLt j (i * 64)) [
-    | yes a ↦ inl (sym (W .before j a) ∙ u)
-    | no a ↦ elim (decLt j ((i + 1) * 64)) [
-      | yes b ↦ ⊎-elim (λ y. inl y) (λ y. inr (and-r (beside 1 (λ j. eqb j t) j) _ y)) (or-out (wordBit was j) (beside 1 (λ j. eqb j t) j && wordBit cand j) (sym (W .inner j (omega arith) b) ∙ u))
-      | no b ↦ inl (sym (W .behind j (omega arith)) ∙ u)
-    ]
-  ];
-}
-  where
-    W : Within (i * 64) ((i + 1) * 64) (λ j. wordBit was j || (beside 1 (λ j. eqb j t) j && wordBit cand j)) (wordBit was) (wordBit (set was i (bitOr (getD was i 0) (bitAnd x (getD cand i 0)))))
-    W = set-word was i _ (λ j. wordBit was j || (beside 1 (λ j. eqb j t) j && wordBit cand j)) h
-        (digits-or 64 (getD was i 0) _ (i * 64) (i * 64) (i * 64) (wordBit was) (λ j. beside 1 (λ j. eqb j t) j && wordBit cand j) _ (digits-here 64 was i sw)
-        (digits-and 64 x (getD cand i 0) (i * 64) (i * 64) (i * 64) (beside 1 (λ j. eqb j t)) (wordBit cand) (λ j. beside 1 (λ j. eqb j t) j && wordBit cand j) X (digits-here 64 cand i sc)
-        (λ a b. refl)) (λ a b. refl))
-
-    next : (j : ℕ) → t ≤ j + 1 → j ≤ t + 1 → (eqb j t || eqb (j + 1) t || (leb 1 j && eqb (j - 1) t)) ≡ true
-    next j lo hi = elim (ℕ-discrete j t) [
-      | yes q ↦ or-l (eqb j t || eqb (j + 1) t) _ (or-l (eqb j t) _ (eq-eqb j t q))
-      | no q ↦ elim (decLt j t) [
-        | yes a ↦ or-l (eqb j t || eqb (j + 1) t) _ (or-r (eqb j t) _ (eq-eqb (j + 1) t (omega arith)))
-        | no a ↦ or-r (eqb j t || eqb (j + 1) t) _ (and-in (leb 1 j) _ (le-leb 1 j (omega arith)) (eq-eqb (j - 1) t (omega arith)))
-      ]
-    ]
-
 -- the words of the bit t alone, which is bit k of word i, and those beside it
 lone : (t i : ℕ) → (t < i * 64) ⊎ ((i + 1) * 64 ≤ t) → Digits 64 0 (i * 64) (λ j. eqb j t)
 lone t i o = digits-zero 64 (i * 64) (λ j. eqb j t) (λ k l. ne-eqb (i * 64 + k) t (λ z. ⊎-elim (λ (x : t < i * 64). omega arith) (λ (x : (i + 1) * 64 ≤ t). omega arith) o))
@@ -133,17 +94,3 @@ module _ (i k b : ℕ) (lk : k < 64) (two : 2 ≤ i) (B : (a : ℕ) → Digits 6
   after-word x S =
       moved (omega arith) (S (i * 64) (λ j. eqb j (i * 64 + k)) (B (i * 64)) (moved {d = (i + 1) * 64} (omega arith) (lone (i * 64 + k) (i + 1) (inl (omega arith))))
       (moved {d = (i + 2) * 64} (omega arith) (lone (i * 64 + k) (i + 2) (inl (omega arith)))))
-
-  pub mark-three : (cand m0 m1 m2 m3 : List ℕ) → Joined1 (i * 64 + k) (i - 1) cand m0 m1 → Joined1 (i * 64 + k) i cand m1 m2 → Joined1 (i * 64 + k) (i + 1) cand m2 m3 →
-      Marked (i * 64 + k) cand m3 m0
-  mark-three cand m0 m1 m2 m3 X Y Z = record {
-    adds = λ j lo hi u. elim (decLt j (i * 64)) [
-      | yes a ↦ Z .keeps j (Y .keeps j (X .adds j (omega arith) (omega arith) lo hi u))
-      | no a ↦ elim (decLt j ((i + 1) * 64)) [
-        | yes d ↦ Z .keeps j (Y .adds j (omega arith) d lo hi u)
-        | no d ↦ Z .adds j (omega arith) (omega arith) lo hi u
-      ]
-    ];
-    keeps = λ j u. Z .keeps j (Y .keeps j (X .keeps j u));
-    only = λ j u. ⊎-elim (λ u. ⊎-elim (X .only j) (λ u. inr u) (Y .only j u)) (λ u. inr u) (Z .only j u);
-  }

@@ -1,4 +1,4 @@
--- Laws of relaxation: over marked pixels, in any order, it comes to the fewest steps.
+-- Laws of rings while marked pixels tell: in any order they come to the fewest steps.
 use mathlib.Core.Path.{_≡_, refl, sym, ap, subst, _∙_}
 use mathlib.Core.List.{List, [], _∷_}
 use mathlib.Core.Bool.{true, false, _&&_}
@@ -45,7 +45,7 @@ count-two l p q hp hq ne zp zq =
     let b′ : sumBy one (set m q 1) + 0 ≡ sumBy one m + 1 = subst (λ (x : ℕ). sumBy one (set m q 1) + one x ≡ sumBy one m + 1) zq′ b in
     omega (arith, count-le (set m q 1), length-set m q 1)
 
-pub zero-or : (v : ℕ) → (v ≡ 0) ⊎ (0 < v)
+zero-or : (v : ℕ) → (v ≡ 0) ⊎ (0 < v)
 zero-or zero = inl refl
 zero-or (suc v) = inr (omega arith)
 
@@ -62,12 +62,8 @@ pub level-wraps : (v x : ℕ) → x < 65536 → (x + 1) % 65536 ≡ v → x + 1 
 level-wraps zero x l e = omega (arith, e)
 level-wraps (suc v) x l e = omega (arith, e)
 
-pub level-zero : (v : ℕ) → v ≡ 0 → level v ≡ 65536
+level-zero : (v : ℕ) → v ≡ 0 → level v ≡ 65536
 level-zero v e = ap level e
-
-level-min : (v : ℕ) → 0 < level v
-level-min zero = omega arith
-level-min (suc v) = omega arith
 
 module _ (w h : ℕ) (free seed known : Plane) where
   abbrev Path : ℕ → ℕ → Type 0
@@ -101,7 +97,7 @@ module _ (w h : ℕ) (free seed known : Plane) where
         where
           go : (0 < getD l o 0) × (getD l o 0 ≤ k) → (0 < getD l p 0) × (getD l p 0 ≤ suc k)
           go ih =
-              let r : level (getD l p 0) ≤ level (getD l o 0) + 1 = G .rest p lp f (quiet p lp) o lo t in
+              let r : level (getD l p 0) ≤ level (getD l o 0) + 1 = G .told o lo (quiet o lo) p lp f t in
               let lo' = level-pos (getD l o 0) (ih .0) in
               ⊎-elim
               (λ (z : getD l p 0 ≡ 0).
@@ -131,115 +127,90 @@ module _ (w h : ℕ) (free seed known : Plane) where
           go p lp (suc v) ev zero eu = absurd (omega (arith, ring-fewest (h * w) (touch w) free seed lp (G .path p lp (omega arith))))
           go p lp (suc v) ev (suc u) eu = omega (arith, ring-fewest (h * w) (touch w) free seed lp (G .path p lp (omega arith)), reach lp (ring-joined (h * w) (touch w) free seed p u lp eu))
 
-    -- one pixel looked at ------------------------------------------------------------------------------------
-    module _ (p : ℕ) (lp : p < h * w) (mp : M p ≡ true) (best : ℕ) (low : (q : ℕ) → q < h * w → touch w p q ≡ true → best ≤ level (getD l q 0)) where
-      -- it stays, and loses its mark
-      pub kept : (N : Plane) → level (getD l p 0) ≤ best + 1 → ((x : ℕ) → x < h * w → N x ≡ false → (x ≡ p) ⊎ (M x ≡ false)) → ((x : ℕ) → x < h * w → N x ≡ true → M x ≡ true) →
-          Sweeping w h free seed known l N
-      kept N k out in' = record {
-        long = G .long;
-        path = G .path;
-        few = G .few;
-        first = G .first;
-        sure = G .sure;
-        rest = λ x lx f e q lq t. ⊎-elim
-            (λ (a : x ≡ p). let t' : touch w p q ≡ true = subst (λ (y : ℕ). touch w y q ≡ true) a t in
-            subst (λ (y : ℕ). level (getD l y 0) ≤ level (getD l q 0) + 1) (sym a) (omega (arith, low q lq t')))
-            (λ a. G .rest x lx f a q lq t) (out x lx e);
-        marked = λ x lx e. G .marked x lx (in' x lx e);
-      }
+    -- a pixel that touches q and is told its ring ------------------------------------------------------------
+    module _ (p q v : ℕ) (lp : p < h * w) (lq : q < h * w) (t : touch w p q ≡ true) (vq : getD l q 0 ≡ v) (pos : 0 < v) where
+      path-v : free p ≡ true → Joined (h * w) (touch w) free seed (v + 1) p
+      path-v f =
+          subst (λ (k : ℕ). Joined (h * w) (touch w) free seed k p) (omega (arith, vq))
+          (onward f lq t (G .path q lq (omega arith)))
 
-      -- it falls, and its later neighbours get a mark
-      module _ (o : ℕ) (lo : o < h * w) (to : touch w p o ≡ true) (be : best ≡ level (getD l o 0)) (lower : best + 1 < level (getD l p 0)) (small : best < 65535) where
-        v : ℕ
-        v = best + 1
-
-        op : 0 < getD l o 0
-        op = ⊎-elim (λ (z : getD l o 0 ≡ 0). absurd (omega (arith, level-zero (getD l o 0) z))) (λ z. z) (zero-or (getD l o 0))
-
-        bo : best ≡ getD l o 0
-        bo = be ∙ level-pos (getD l o 0) op
-
+      module _ (la : later free known p ≡ true) (lower : v + 1 < level (getD l p 0)) where
         pl : p < length l
         pl = omega (arith, G .long)
 
-        path-v : Joined (h * w) (touch w) free seed (best + 1) p
-        path-v =
-            let s : Joined (h * w) (touch w) free seed (getD l o 0) o = G .path o lo op in
-            subst (λ (k : ℕ). Joined (h * w) (touch w) free seed k p) (omega (arith, bo)) (onward (later-split p (G .marked p lp mp) .0) lo to s)
+        count-eq : sumBy one (set l p (v + 1)) + one (getD l p 0) ≡ sumBy one l + 1
+        count-eq = subst (λ (x : ℕ). sumBy one (set l p (v + 1)) + one (getD l p 0) ≡ sumBy one l + x) (one-pos (v + 1) (omega arith)) (sum-set one l p (v + 1) pl)
 
-        pub fell : sumBy level (set l p (best + 1)) < sumBy level l
-        fell = omega (arith, sum-set level l p (best + 1) pl, level-pos (best + 1) (omega arith))
-
-        count-eq : sumBy one (set l p (best + 1)) + one (getD l p 0) ≡ sumBy one l + 1
-        count-eq = subst (λ (x : ℕ). sumBy one (set l p (best + 1)) + one (getD l p 0) ≡ sumBy one l + x) (one-pos (best + 1) (omega arith)) (sum-set one l p (best + 1) pl)
-
-        v-few : best + 1 ≤ sumBy one (set l p (best + 1))
+        v-few : v + 1 ≤ sumBy one (set l p (v + 1))
         v-few =
             ⊎-elim
-            (λ (z : getD l p 0 ≡ 0). let a : sumBy one (set l p (best + 1)) + 0 ≡ sumBy one l + 1 = subst (λ (x : ℕ). sumBy one (set l p (best + 1)) + one x ≡ sumBy one l + 1) z count-eq in omega
-            (arith, G .few o lo, bo))
+            (λ (z : getD l p 0 ≡ 0).
+            let a : sumBy one (set l p (v + 1)) + 0 ≡ sumBy one l + 1 = subst (λ (x : ℕ). sumBy one (set l p (v + 1)) + one x ≡ sumBy one l + 1) z count-eq in
+            omega (arith, G .few q lq, vq))
             (λ (z : 0 < getD l p 0). omega (arith, count-eq, one-le (getD l p 0), level-pos (getD l p 0) z, G .few p lp))
             (zero-or (getD l p 0))
 
-        same : getD (set l p (best + 1)) p 0 ≡ best + 1
-        same = getD-set-same l p (best + 1) 0 pl
+        same : getD (set l p (v + 1)) p 0 ≡ v + 1
+        same = getD-set-same l p (v + 1) 0 pl
 
-        other : (x : ℕ) → (x ≡ p → ⊥) → getD (set l p (best + 1)) x 0 ≡ getD l x 0
-        other x n = getD-set-other l p x (best + 1) 0 n
+        other : (x : ℕ) → (x ≡ p → ⊥) → getD (set l p (v + 1)) x 0 ≡ getD l x 0
+        other x n = getD-set-other l p x (v + 1) 0 n
 
-        level-le : (x : ℕ) → level (getD l x 0) ≤ level (getD (set l p (best + 1)) x 0) ⊎ (x ≡ p)
-        level-le x = elim (ℕ-discrete x p) [ yes a ↦ inr a | no a ↦ inl (subst (λ (y : ℕ). level (getD l x 0) ≤ level y) (sym (other x a)) (omega arith)) ]
+        level-le : (x : ℕ) → level (getD (set l p (v + 1)) x 0) ≤ level (getD l x 0)
+        level-le x = elim (ℕ-discrete x p) [
+          | yes a ↦ omega (arith, ap (λ (y : ℕ). level (getD (set l p (v + 1)) y 0)) a ∙ ap level same ∙ level-pos (v + 1) (omega arith), ap (λ (y : ℕ). level (getD l y 0)) a)
+          | no a ↦ omega (arith, ap level (other x a))
+        ]
 
-        pub lowered : (N : Plane) → ((x : ℕ) → x < h * w → N x ≡ false → (x ≡ p) ⊎ ((M x ≡ false) × (touch w x p ≡ true → later free known x ≡ false)))
-            → ((x : ℕ) → x < h * w → N x ≡ true → later free known x ≡ true) → Sweeping w h free seed known (set l p (best + 1)) N
+        pub lowered : (N : Plane) → ((x : ℕ) → x < h * w → N x ≡ false → (x ≡ p → ⊥) × (M x ≡ false)) → ((x : ℕ) → x < h * w → N x ≡ true → (x ≡ p) ⊎ (M x ≡ true)) →
+            Sweeping w h free seed known (set l p (v + 1)) N
         lowered N out in' = record {
-          long = length-set l p (best + 1) ∙ G .long;
+          long = length-set l p (v + 1) ∙ G .long;
           path = λ x lx z. elim (ℕ-discrete x p) [
-            | yes a ↦ subst (λ (y : ℕ). Joined (h * w) (touch w) free seed (getD (set l p (best + 1)) y 0) y) (sym a) (subst (λ (k : ℕ). Joined (h * w) (touch w) free seed k p) (sym same) path-v)
+            | yes a ↦ subst (λ (y : ℕ). Joined (h * w) (touch w) free seed (getD (set l p (v + 1)) y 0) y) (sym a)
+                (subst (λ (k : ℕ). Joined (h * w) (touch w) free seed k p) (sym same) (path-v (later-split p la .0)))
             | no a ↦ subst (λ (k : ℕ). Joined (h * w) (touch w) free seed k x) (sym (other x a)) (G .path x lx (subst (λ (k : ℕ). 0 < k) (other x a) z))
           ];
           few = λ x lx. elim (ℕ-discrete x p) [
-            | yes a ↦ subst (λ (y : ℕ). getD (set l p (best + 1)) y 0 ≤ sumBy one (set l p (best + 1))) (sym a) (omega (arith, same, v-few))
+            | yes a ↦ subst (λ (y : ℕ). getD (set l p (v + 1)) y 0 ≤ sumBy one (set l p (v + 1))) (sym a) (omega (arith, same, v-few))
             | no a ↦ omega (arith, other x a, G .few x lx, count-eq, one-le (getD l p 0))
           ];
           first = G .first;
           sure = λ x lx e. elim (ℕ-discrete x p) [
-            | yes a ↦ clash (subst (λ (y : ℕ). known y ≡ true) a e) (later-split p (G .marked p lp mp) .1)
+            | yes a ↦ clash (subst (λ (y : ℕ). known y ≡ true) a e) (later-split p la .1)
             | no a ↦ subst (λ (r : ℕ). (0 < r) × ((k : ℕ) → Joined (h * w) (touch w) free seed k x → r ≤ k)) (sym (other x a)) (G .sure x lx e)
           ];
-          rest = λ x lx f e q lq t. rests x lx f (out x lx e) q lq t;
-          marked = in';
+          told = λ y ly e x lx f u. let (n, m) = out y ly e in omega (arith, level-le x, ap level (other y n), G .told y ly m x lx f u);
+          marked = λ x lx e. elim (ℕ-discrete x p) [
+            | yes a ↦ subst (λ (y : ℕ). 0 < getD (set l p (v + 1)) y 0) (sym a) (omega (arith, same))
+            | no a ↦ omega (arith, other x a, ⊎-elim (λ (b : x ≡ p). absurd (a b)) (λ b. G .marked x lx b) (in' x lx e))
+          ];
         }
-          where
-            L : ℕ → ℕ
-            L x = level (getD (set l p (best + 1)) x 0)
 
-            rest-p : (q : ℕ) → q < h * w → touch w p q ≡ true → level (getD (set l p (best + 1)) p 0) ≤ level (getD (set l p (best + 1)) q 0) + 1
-            rest-p q lq t =
-                let e : level (getD (set l p (best + 1)) p 0) ≡ best + 1 = ap level same ∙ level-pos (best + 1) (omega arith) in
-                elim (ℕ-discrete q p) [
-                  | yes a ↦ subst (λ (y : ℕ). level (getD (set l p (best + 1)) p 0) ≤ level (getD (set l p (best + 1)) y 0) + 1) (sym a) (omega arith)
-                  | no a ↦ omega (arith, e, low q lq t, ap level (other q a))
-                ]
+      -- a known pixel has no more than that already
+      known-told : free p ≡ true → later free known p ≡ false → level (getD l p 0) ≤ v + 1
+      known-told f e = let (a, b) = G .sure p lp (not-later p f e) in omega (arith, b (v + 1) (path-v f), level-pos (getD l p 0) a)
 
-            at-p : (x q : ℕ) → x ≡ p → q < h * w → touch w x q ≡ true → level (getD (set l p (best + 1)) x 0) ≤ level (getD (set l p (best + 1)) q 0) + 1
-            at-p x q a lq t =
-                subst (λ (y : ℕ). level (getD (set l p (best + 1)) y 0) ≤ level (getD (set l p (best + 1)) q 0) + 1) (sym a)
-                (rest-p q lq (subst (λ (y : ℕ). touch w y q ≡ true) a t))
+    -- q has told all, and loses its mark
+    pub cleared : (q : ℕ) → q < h * w → M q ≡ true → ((p : ℕ) → p < h * w → later free known p ≡ true → touch w p q ≡ true → level (getD l p 0) ≤ getD l q 0 + 1)
+        → (N : Plane) → ((x : ℕ) → x < h * w → N x ≡ false → (x ≡ q) ⊎ (M x ≡ false)) → ((x : ℕ) → x < h * w → N x ≡ true → M x ≡ true) → Sweeping w h free seed known l N
+    cleared q lq mq all N out in' = record {
+      long = G .long;
+      path = G .path;
+      few = G .few;
+      first = G .first;
+      sure = G .sure;
+      told = λ y ly e x lx f u. ⊎-elim (λ (a : y ≡ q). here x lx f y a u) (λ a. G .told y ly a x lx f u) (out y ly e);
+      marked = λ x lx e. G .marked x lx (in' x lx e);
+    }
+      where
+        pos : 0 < getD l q 0
+        pos = G .marked q lq mq
 
-            rests : (x : ℕ) → x < h * w → free x ≡ true → (x ≡ p) ⊎ ((M x ≡ false) × (touch w x p ≡ true → later free known x ≡ false)) → (q : ℕ) → q < h * w → touch w x q ≡ true
-                → level (getD (set l p (best + 1)) x 0) ≤ level (getD (set l p (best + 1)) q 0) + 1
-            rests x lx f (inl a) q lq t = at-p x q a lq t
-            rests x lx f (inr b) q lq t = elim (ℕ-discrete x p) [
-              | yes a ↦ at-p x q a lq t
-              | no a ↦ elim (ℕ-discrete q p) [
-                | yes c ↦
-                    let tp : touch w x p ≡ true = subst (λ (y : ℕ). touch w x y ≡ true) c t in
-                    let (o1, o2) = G .sure x lx (not-later x f (b .1 tp)) in
-                    let o3 : getD l x 0 ≤ suc (best + 1) = o2 (suc (best + 1)) (onward f lp tp path-v) in
-                    let e : level (getD (set l p (best + 1)) q 0) ≡ best + 1 = ap (λ (y : ℕ). level (getD (set l p (best + 1)) y 0)) c ∙ ap level same ∙ level-pos (best + 1) (omega arith) in
-                    omega (arith, e, o3, ap level (other x a) ∙ level-pos (getD l x 0) o1)
-                | no c ↦ omega (arith, ap level (other x a), ap level (other q c), G .rest x lx f (b .0) q lq t)
-              ]
-            ]
+        here : (x : ℕ) → x < h * w → free x ≡ true → (y : ℕ) → y ≡ q → touch w x y ≡ true → level (getD l x 0) ≤ level (getD l y 0) + 1
+        here x lx f y a u =
+            let u' : touch w x q ≡ true = subst (λ (z : ℕ). touch w x z ≡ true) a u in
+            let e : level (getD l y 0) ≡ getD l q 0 = ap (λ (z : ℕ). level (getD l z 0)) a ∙ level-pos (getD l q 0) pos in
+            let b : level (getD l x 0) ≤ getD l q 0 + 1 =
+            split (later free known x) (λ c. all x lx c u') (λ c. known-told x q (getD l q 0) lx lq u' refl pos f c) in
+            omega arith

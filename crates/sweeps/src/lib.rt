@@ -1,4 +1,5 @@
-// Rings by relaxation: sweeps over the marked pixels of a plane lower ring numbers until none falls any more.
+// Rings by sweeps: marked pixels tell their neighbours, row by row, until no mark is left.
 pub mod levels;
 pub mod marks;
 pub mod sweeps;
+pub mod visits;

@@ -1,52 +1,18 @@
-// Sweeps over the marked pixels, until no ring falls any more.
+// Sweeps over the marked pixels, down and up in turn, until no mark is left.
 ghost use mathlib.Core.Path.{_≡_};
 ghost use mathlib.Core.Bool.{Bool, true, false};
 ghost use mathlib.Core.Logic.{_⊎_};
-ghost use Prim.Native.Nat.{ℕ, _+_, _*_, _<_, _≤_};
-ghost use lib.ListN.{getD};
+ghost use Prim.Native.Nat.{ℕ, _+_, _-_, _*_, _<_};
+ghost use lib.ListN.{length, getD};
 ghost use lib.Dec.{ltb};
 ghost use Rattle.rules.specs.Planning.{touch, grown};
 ghost use Rattle.words.specs.Words.{wordBit};
-ghost use Rattle.planes.specs.Scratch.{spot, seen};
-ghost use Rattle.sweeps.specs.Marks.{SweepPlanes, Grows, Moved, Onward};
+ghost use Rattle.planes.specs.Scratch.{seen};
+ghost use Rattle.sweeps.specs.Marks.{SweepPlanes, Grows, Onward};
+ghost use Rattle.sweeps.specs.Rings.{sumBy, level};
+ghost use Rattle.sweeps.specs.Telling.{Falls, Unmarked, Nearby, turned, behindRow};
 
-// Takes the mark of the pixel in bit k of word q of row r, and lowers its ring where a neighbour allows it.
-fn visit(
-    ring: &mut [u16],
-    marks: &mut [u64],
-    got: &mut [u64],
-    cand: &[u64],
-    w: usize,
-    h: usize,
-    r: usize,
-    q: usize,
-    k: usize,
-) -> bool
-    requires { ⌜ SweepPlanes w h (now ring) (now marks) (now got) (now cand) ⌝ }
-    requires { ⌜ (r < h) × (q < 5) × (k < 64) × (q * 64 + k < w) ⌝ }
-    requires { ⌜ wordBit (now marks) (spot r (q * 64 + k)) ≡ true ⌝ }
-    ensures { λ _. ⌜ SweepPlanes w h (now (ring .exit)) (now (marks .exit)) (now (got .exit)) (now (cand .entry)) ⌝ }
-    ensures { λ d. ⌜ Moved d (now (ring .exit)) (now (ring .entry)) (now (marks .exit)) (now (marks .entry)) ⌝ }
-    ensures { λ d. ⌜ (d ≡ false → getD (now (marks .exit)) ((r + 33) * 5 + q) 0 < getD (now (marks .entry)) ((r + 33) * 5 + q) 0) ⌝ }
-    ensures { λ _. ⌜ Onward w h (now (ring .exit)) (now (ring .entry)) (now (marks .exit)) (now (marks .entry)) (now (got .exit)) (now (got .entry)) (now (cand .entry)) ⌝ }
-{
-    let base = r * w;
-    let i = (r + 33) * 5 + q;
-    let c = q * 64 + k;
-    let p = base + c;
-    crate::marks::clear_bit(marks, i, k);
-    let best = crate::levels::around(ring, w, h, r, c, base);
-    let old = crate::levels::level_at(ring, p);
-    if best + 1 < old {
-        ring[p] = (best + 1) as u16;
-        crate::marks::set_bit(got, i, k);
-        crate::marks::spread(marks, cand, i, k);
-        return true;
-    }
-    false
-}
-
-// Visits the marked pixels of row r until it has none; tells whether a ring fell.
+// Visits the marked pixels of row r until it has none.
 fn settle_row(
     ring: &mut [u16],
     marks: &mut [u64],
@@ -55,34 +21,52 @@ fn settle_row(
     w: usize,
     h: usize,
     r: usize,
-) -> bool
-    requires { ⌜ SweepPlanes w h (now ring) (now marks) (now got) (now cand) ⌝ }
-    requires { ⌜ r < h ⌝ }
+)
+    requires { ⌜ SweepPlanes w h (now ring) (now marks) (now got) (now cand) × (r < h) ⌝ }
     ensures { λ _. ⌜ SweepPlanes w h (now (ring .exit)) (now (marks .exit)) (now (got .exit)) (now (cand .entry)) ⌝ }
-    ensures { λ d. ⌜ Moved d (now (ring .exit)) (now (ring .entry)) (now (marks .exit)) (now (marks .entry)) ⌝ }
-    ensures { λ d. ⌜ (d ≡ false → (j : ℕ) → (r + 33) * 320 ≤ j → j < (r + 34) * 320 → wordBit (now (marks .exit)) j ≡ false) ⌝ }
+    ensures { λ _. ⌜ Falls (now (ring .exit)) (now (ring .entry)) ((j : ℕ) → wordBit (now (marks .exit)) j ≡ true → wordBit (now (marks .entry)) j ≡ true) ⌝ }
+    ensures { λ _. ⌜ Unmarked (now (marks .exit)) (r + 33) × Nearby (r + 33) (now (marks .exit)) (now (marks .entry)) ⌝ }
     ensures { λ _. ⌜ Onward w h (now (ring .exit)) (now (ring .entry)) (now (marks .exit)) (now (marks .entry)) (now (got .exit)) (now (got .entry)) (now (cand .entry)) ⌝ }
 {
-    let i0 = (r + 33) * 5;
-    let mut changed = false;
+    let i = (r + 33) * 5;
     let mut q: usize = 0;
-    while q < 5 {
-        let m = marks[i0 + q];
+    while q < 4 {
+        let m = marks[i + q];
         if m == 0 {
             q += 1;
         } else {
-            let k = words::single::first(m);
-            let a = crate::levels::before(q);
-            if visit(ring, marks, got, cand, w, h, r, q, k) {
-                changed = true;
-                q = a;
-            }
+            let k = words::single::last(m);
+            crate::visits::visit(ring, marks, got, cand, w, h, r, q, k);
+            // the visit may have marked a pixel of the word before
+            q = before(q);
         }
     }
-    changed
 }
 
-// Goes through the rows once, downward, and tells whether a ring fell.
+// The word before word q, and q where there is none.
+fn before(q: usize) -> usize
+    ensures { λ r. ⌜ r ≡ q - 1 ⌝ }
+{
+    if 0 < q { q - 1 } else { q }
+}
+
+// The row that comes after r others, from the top or from the bottom.
+fn in_turn(up: bool, h: usize, r: usize) -> usize
+    requires { ⌜ r < h ⌝ }
+    ensures { λ y. ⌜ y ≡ turned up h r ⌝ }
+{
+    if up { h - 1 - r } else { r }
+}
+
+// The row of the plane that a sweep passed just before row y of the image.
+fn row_behind(up: bool, y: usize) -> usize
+    requires { ⌜ y < 256 ⌝ }
+    ensures { λ k. ⌜ k ≡ behindRow up y ⌝ }
+{
+    if up { y + 34 } else { y + 32 }
+}
+
+// Goes through the rows once, downward or upward, and tells whether marks are left behind.
 fn sweep(
     ring: &mut [u16],
     marks: &mut [u64],
@@ -90,45 +74,61 @@ fn sweep(
     cand: &[u64],
     w: usize,
     h: usize,
+    up: bool,
 ) -> bool
     requires { ⌜ SweepPlanes w h (now ring) (now marks) (now got) (now cand) ⌝ }
     ensures { λ _. ⌜ SweepPlanes w h (now (ring .exit)) (now (marks .exit)) (now (got .exit)) (now (cand .entry)) ⌝ }
-    ensures { λ d. ⌜ Moved d (now (ring .exit)) (now (ring .entry)) (now (marks .exit)) (now (marks .entry)) ⌝ }
-    ensures { λ d. ⌜ (d ≡ false → (p : ℕ) → p < h * w → seen w (now (marks .exit)) p ≡ false) ⌝ }
+    ensures { λ d. ⌜ (d ≡ false → (j : ℕ) → wordBit (now (marks .exit)) j ≡ false) × (d ≡ true → sumBy level (now (ring .exit)) < sumBy level (now (ring .entry))) ⌝ }
     ensures { λ _. ⌜ Onward w h (now (ring .exit)) (now (ring .entry)) (now (marks .exit)) (now (marks .entry)) (now (got .exit)) (now (got .entry)) (now (cand .entry)) ⌝ }
 {
-    let mut changed = false;
+    let mut behind = false;
     let mut r: usize = 0;
     while r < h {
-        let y = r;
+        let y = in_turn(up, h, r);
         r += 1;
         if words::rows::any(planes::rows::row(marks, y + 33)) {
-            if settle_row(ring, marks, got, cand, w, h, y) {
-                changed = true;
+            settle_row(ring, marks, got, cand, w, h, y);
+            if words::rows::any(planes::rows::row(marks, row_behind(up, y))) {
+                behind = true;
             }
         }
     }
-    changed
+    behind
 }
 
-// Sweeps until no ring falls any more: then every pixel has its ring, and got has those with one. The first sweep stands by itself, because a
-// function that is called once is compiled into its caller, and in a large one the loops of a sweep find no registers.
+// The plane p into `to`.
+fn copy(p: &[u64], to: &mut [u64])
+    requires { ⌜ length (now to) ≡ length (now p) ⌝ }
+    ensures { λ _. ⌜ now (to .exit) ≡ now (p .entry) ⌝ }
+{
+    let mut i: usize = 0;
+    while i < to.len() {
+        to[i] = p[i];
+        i += 1;
+    }
+}
+
+// Sweeps from the pixels of front on, down and up in turn, until no mark is left: then every pixel has its ring, and got has those with one.
 pub fn settle(
     ring: &mut [u16],
+    front: &[u64],
     marks: &mut [u64],
     got: &mut [u64],
     cand: &[u64],
     w: usize,
     h: usize,
 )
-    requires { ⌜ SweepPlanes w h (now ring) (now marks) (now got) (now cand) ⌝ }
-    ensures { λ _. ⌜ SweepPlanes w h (now (ring .exit)) (now (marks .exit)) (now (got .exit)) (now (cand .entry)) ⌝ }
+    requires { ⌜ SweepPlanes w h (now ring) (now front) (now got) (now cand) × (length (now marks) ≡ 1610) ⌝ }
+    ensures { λ _. ⌜ ((j : ℕ) → wordBit (now (marks .exit)) j ≡ false) ⌝ }
     ensures { λ _. ⌜ ((j : ℕ) → wordBit (now (got .exit)) j ≡ true → (wordBit (now (got .entry)) j ≡ true) ⊎ (wordBit (now (cand .entry)) j ≡ true)) ⌝ }
-    ensures { λ _. ⌜ ((free seed known : ℕ → Bool) → Grows w h free seed known (now (ring .entry)) (now (marks .entry)) (now (got .entry)) (now (cand .entry))
+    ensures { λ _. ⌜ ((free seed known : ℕ → Bool) → Grows w h free seed known (now (ring .entry)) (now (front .entry)) (now (got .entry)) (now (cand .entry))
         → (now (ring .exit) ≡ grown (h * w) (touch w) free seed (h * w)) × ((p : ℕ) → p < h * w → seen w (now (got .exit)) p ≡ ltb 0 (getD (now (ring .exit)) p 0))) ⌝ }
 {
-    if !sweep(ring, marks, got, cand, w, h) {
-        return;
+    copy(front, marks);
+    // two calls on purpose: called once, `sweep` is compiled into its caller and finds no registers
+    while sweep(ring, marks, got, cand, w, h, false) {
+        if !sweep(ring, marks, got, cand, w, h, true) {
+            return;
+        }
     }
-    while sweep(ring, marks, got, cand, w, h) {}
 }

@@ -22,15 +22,16 @@ pub fn first(x: u64) -> usize
     u64::leading_zeros(x) as usize
 }
 
-// The last bit that is set, and the word without it: the cheapest way through all bits of a word.
-fn last(x: u64) -> usize
+// The last bit that is set: the cheapest to find.
+pub fn last(x: u64) -> usize
     requires { ⌜ 0 < x ⌝ }
     ensures { λ r. ⌜ (r ≡ lastBit x) × (r < 64) × (bitOfWord x r ≡ true) ⌝ }
 {
     63 - u64::trailing_zeros(x) as usize
 }
 
-fn without_last(x: u64) -> u64
+// The word without its last bit.
+pub fn without_last(x: u64) -> u64
     requires { ⌜ 0 < x ⌝ }
     ensures { λ r. ⌜ ((i : ℕ) → i < 64 → bitOfWord r i ≡ bitOfWord x i && not (eqb i (lastBit x))) × (r < x) ⌝ }
 {
