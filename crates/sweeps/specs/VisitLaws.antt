@@ -4,7 +4,7 @@ use mathlib.Core.List.{List}
 use mathlib.Core.Bool.{Bool, true, not, _&&_, _||_}
 use mathlib.Core.Logic.{_⊎_, inl, inr, ⊎-elim}
 use Prim.Native.Nat.{ℕ, _+_, _-_, _*_, _/_, _%_, _^_, _≤_, _<_}
-use native.Mathlib.Nat.{div-add-mod'}
+use native.Mathlib.Nat.{div-add-mod', add-mul}
 use native.Mathlib.Decide.{ℕ-discrete, decLt}
 use native.Mathlib.Omega.{arith}
 use borrow.Author.Tests.{eq-eqb, ne-eqb, eqb-true, eqb-false, le-leb, leb-true}
@@ -199,37 +199,34 @@ module _ {w h : ℕ} {ring marks got cand : List ℕ} {r q k : ℕ} (K : MarkedP
     in-plane : pixelOf w j < h * w
     in-plane = pixel-in w h (K .planes .sizes) j P
 
-  twice : (r + 2) * w ≡ r * w + w + w
-  twice = let x : (r + 1 + 1) * w ≡ (r + 1) * w + w = row-next (r + 1) w in let y = row-next r w in ap (λ (n : ℕ). n * w) (omega arith) ∙ x ∙ ap (λ (n : ℕ). n + w) y
-
-  -- three words, each with its mask
+  -- three words, each with its mask: those of the row above, of its own and of the row below are i, i + 5 and i + 10
   module _ (e i x mask middle : ℕ) (le : e ≤ 2) (ei : i + 6 ≡ (r + 33) * 5 + q + e) (ex : x ≡ r * w + q * 64 + e * 64) (M : Masks (spot r (q * 64 + k)) ((i + 5) * 64) mask middle) where
-    above : (a : ℕ) → Meant i mask cand a → (B (i * 64 + a) ≡ true) × (pixelOf w (i * 64 + a) + (w + 64) ≡ x + a) × (pixelOf w (i * 64 + a) < h * w)
-    above a m =
-        let (u, v) = close-out (spot r (q * 64 + k)) ((i + 5) * 64 + a) (M .out a (m .in-word) (m .in-mask)) in
-        let ej : i * 64 + a + 384 ≡ (r + 33) * 320 + q * 64 + e * 64 + a + 0 * 320 = omega arith in (
-          tellable-in (spot r (q * 64 + k)) cand (i * 64 + a) (m .in-cand) (λ z. omega arith) (inr (inl (close-in (spot r (q * 64 + k)) (i * 64 + a + 320) (omega arith) (omega arith)))),
-          (let y : (r + 0) * w ≡ r * w = ap (λ (n : ℕ). n * w) (omega arith) in omega (arith, place-is 0 e (omega arith) le a (i * 64 + a) (m .in-word) ej (m .in-cand))),
-          in-plane 0 e (omega arith) le a (i * 64 + a) (m .in-word) ej (m .in-cand),
+    -- a bit of word n, d rows below the first, that is beside the visited one in its column
+    meant-at : (d n m : ℕ) → d ≤ 2 → n ≡ i + d * 5 → (a : ℕ) → Meant n m cand a → close (spot r (q * 64 + k)) ((i + 5) * 64 + a) ≡ true → (n * 64 + a ≡ spot r (q * 64 + k) → ⊥)
+        → (B (n * 64 + a) ≡ true) × (pixelOf w (n * 64 + a) + w + 64 ≡ x + a + d * w) × (pixelOf w (n * 64 + a) < h * w)
+    meant-at d n m ld en a me c o =
+        let (u, v) = close-out (spot r (q * 64 + k)) ((i + 5) * 64 + a) c in
+        let ej : n * 64 + a + 384 ≡ (r + 33) * 320 + q * 64 + e * 64 + a + d * 320 = omega arith in
+        let y : (r + d) * w ≡ r * w + d * w = add-mul r d w in (
+          tellable-in (spot r (q * 64 + k)) cand (n * 64 + a) (me .in-cand) o (elim (ℕ-discrete d 1) [
+            | yes z ↦ inl (close-in (spot r (q * 64 + k)) (n * 64 + a) (omega arith) (omega arith))
+            | no z ↦ elim (ℕ-discrete d 0) [
+              | yes z' ↦ inr (inl (close-in (spot r (q * 64 + k)) (n * 64 + a + 320) (omega arith) (omega arith)))
+              | no z' ↦ inr (inr (close-in (spot r (q * 64 + k) + 320) (n * 64 + a) (omega arith) (omega arith)))
+            ]
+          ]),
+          omega (arith, place-is d e ld le a (n * 64 + a) (me .in-word) ej (me .in-cand)),
+          in-plane d e ld le a (n * 64 + a) (me .in-word) ej (me .in-cand),
         )
 
-    own : (a : ℕ) → Meant (i + 5) middle cand a → (B ((i + 5) * 64 + a) ≡ true) × (pixelOf w ((i + 5) * 64 + a) + 64 ≡ x + a) × (pixelOf w ((i + 5) * 64 + a) < h * w)
-    own a m =
-        let (u, n) = M .middle-out a (m .in-word) (m .in-mask) in
-        let ej : (i + 5) * 64 + a + 384 ≡ (r + 33) * 320 + q * 64 + e * 64 + a + 1 * 320 = omega arith in (
-          tellable-in (spot r (q * 64 + k)) cand ((i + 5) * 64 + a) (m .in-cand) n (inl u),
-          (let y = row-next r w in omega (arith, place-is 1 e (omega arith) le a ((i + 5) * 64 + a) (m .in-word) ej (m .in-cand))),
-          in-plane 1 e (omega arith) le a ((i + 5) * 64 + a) (m .in-word) ej (m .in-cand),
-        )
+    above : (a : ℕ) → Meant i mask cand a → (B (i * 64 + a) ≡ true) × (pixelOf w (i * 64 + a) + w + 64 ≡ x + a + 0 * w) × (pixelOf w (i * 64 + a) < h * w)
+    above a m = let c = M .out a (m .in-word) (m .in-mask) in let (u, v) = close-out _ _ c in meant-at 0 i mask (omega arith) (omega arith) a m c (λ z. omega arith)
 
-    below : (a : ℕ) → Meant (i + 10) mask cand a → (B ((i + 10) * 64 + a) ≡ true) × (pixelOf w ((i + 10) * 64 + a) + 64 ≡ x + w + a) × (pixelOf w ((i + 10) * 64 + a) < h * w)
-    below a m =
-        let (u, v) = close-out (spot r (q * 64 + k)) ((i + 5) * 64 + a) (M .out a (m .in-word) (m .in-mask)) in
-        let ej : (i + 10) * 64 + a + 384 ≡ (r + 33) * 320 + q * 64 + e * 64 + a + 2 * 320 = omega arith in (
-          tellable-in (spot r (q * 64 + k)) cand ((i + 10) * 64 + a) (m .in-cand) (λ z. omega arith) (inr (inr (close-in (spot r (q * 64 + k) + 320) ((i + 10) * 64 + a) (omega arith) (omega arith)))),
-          (let y = twice in omega (arith, place-is 2 e (omega arith) le a ((i + 10) * 64 + a) (m .in-word) ej (m .in-cand))),
-          in-plane 2 e (omega arith) le a ((i + 10) * 64 + a) (m .in-word) ej (m .in-cand),
-        )
+    own : (a : ℕ) → Meant (i + 5) middle cand a → (B ((i + 5) * 64 + a) ≡ true) × (pixelOf w ((i + 5) * 64 + a) + w + 64 ≡ x + a + 1 * w) × (pixelOf w ((i + 5) * 64 + a) < h * w)
+    own a m = let (c, o) = M .middle-out a (m .in-word) (m .in-mask) in meant-at 1 (i + 5) middle (omega arith) (omega arith) a m c o
+
+    below : (a : ℕ) → Meant (i + 10) mask cand a → (B ((i + 10) * 64 + a) ≡ true) × (pixelOf w ((i + 10) * 64 + a) + w + 64 ≡ x + a + 2 * w) × (pixelOf w ((i + 10) * 64 + a) < h * w)
+    below a m = let c = M .out a (m .in-word) (m .in-mask) in let (u, v) = close-out _ _ c in meant-at 2 (i + 10) mask (omega arith) (omega arith) a m c (λ z. omega arith)
 
     -- what telling asks for, by the lengths of rings, marks and got
     pub asks : (nr nm ng : ℕ) → nr ≡ length ring → nm ≡ length marks → ng ≡ length got → (mask ≡ 0 → middle ≡ 0)
@@ -249,7 +246,7 @@ module _ {w h : ℕ} {ring marks got cand : List ℕ} {r q k : ℕ} (K : MarkedP
         )
 
     pub aimed : Aimed (pixelOf w) B i mask x (w + 64) cand × Aimed (pixelOf w) B (i + 5) middle x 64 cand × Aimed (pixelOf w) B (i + 10) mask (x + w) 64 cand
-    aimed = ((λ a m. let A = above a m in (A .0, A .1)), (λ a m. let A = own a m in (A .0, A .1)), (λ a m. let A = below a m in (A .0, A .1)))
+    aimed = ((λ a m. let A = above a m in (A .0, omega (arith, A .1))), (λ a m. let A = own a m in (A .0, omega (arith, A .1))), (λ a m. let A = below a m in (A .0, omega (arith, A .1))))
 
     -- the pixel in row s and column c, which stands in one of the three words, is told
     module _ (v : ℕ) (ring' : List ℕ) (T : Told (pixelOf w) i mask v cand ring' × Told (pixelOf w) (i + 5) middle v cand ring' × Told (pixelOf w) (i + 10) mask v cand ring')
