@@ -1,4 +1,6 @@
 // Answers and what reading tells, as a C caller sees them: each packed into one number, or written to a row of numbers.
+#![tactic(auto)]
+
 ghost use Rattle.std.specs.Prelude.{◌≡◌, cond, ◌++◌, ◌+◌, ◌-◌, ◌*◌, ◌%◌, ◌<◌, ◌≤◌, length, take, drop};
 ghost use Rattle.rules.specs.Tools.{bit};
 ghost use Rattle.answers.specs.Packed as packed;

@@ -1,4 +1,6 @@
 // Cleaning: planned support in which thin gaps are closed, for filament machines. The call refuses, or plans and cleans, and answers.
+#![tactic(auto)]
+
 pub mod closing;
 pub mod far;
 pub mod stack;
@@ -10,14 +12,14 @@ use rules::{Pixels, Planned, Settings};
 
 // How far down the rows that are looked at reach by the radius of the disc: those with a pixel before row `some`, those that are full before
 // row `full`.
-#[derive(Drop)]
+#[derive(Clone, Copy)]
 pub struct Till {
     pub some: usize,
     pub full: usize,
 }
 
 // Of a layer's support: whether it is that of the layer above, and whether it is empty.
-#[derive(Drop)]
+#[derive(Clone, Copy)]
 pub struct Compared {
     pub same: bool,
     pub empty: bool,

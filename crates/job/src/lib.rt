@@ -1,4 +1,6 @@
 // Job files: reading, the stretches of part and support, copying rings, writing. The rules are 'Jobs' and 'Calls' of crate rules.
+#![tactic(auto)]
+
 pub mod writing;
 
 ghost use Rattle.rules.specs.Outcomes.{Reads, HandsPart, HandsSupport, Copies, Writes};

@@ -1,5 +1,7 @@
 // Runs the calls on job files: every cut, wrong counts, bytes after the end, padding, single layers, and the longest job that
 // 64 KiB hold, written, read back and written again. Each line has the numbers that the calls answered.
+#![tactic(auto)]
+
 ghost use Rattle.std.specs.Prelude.{◌≡◌, ◌≤◌, length};
 
 use rules::{CopiedRings, Micrometres, ReadJob, Refusal, Settings, WrittenJob};

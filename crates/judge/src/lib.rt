@@ -1,4 +1,6 @@
 // The checker: the call and its verdict.
+#![tactic(auto)]
+
 ghost use Rattle.std.specs.Prelude.{◌≡◌, false, ◌-◌, ◌*◌, ◌/◌, ◌%◌, ◌<◌, ◌≤◌, length};
 ghost use Rattle.rules.specs.Images.{rows_of, stack_bytes, padding_set, rings_in, pixel};
 ghost use Rattle.rules.specs.Reach.{bound_of};

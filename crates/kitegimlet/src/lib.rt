@@ -1,5 +1,7 @@
 // The public calls, for programs in C and in other languages: include/kitegimlet.h says how each is called. A number is passed as itself,
 // a buffer as a pointer and its number of elements. Each call takes every input; its answer is packed into one number.
+#![tactic(auto)]
+
 ghost use Rattle.answers.specs.Packed.{settings_of, um, px, job_of};
 ghost use Rattle.kitegimlet.specs.Outcomes.{KgReaches, KgPlans, KgCleans, KgPosts, KgJudges, KgReads, KgCopies, KgWrites, KgHandsPart, KgHandsSupport};
 

@@ -3,7 +3,7 @@
 use Rattle.std.proofs.Math.Path.{◌≡◌, refl, sym, ap}
 use Rattle.std.proofs.Common.{◌∙◌}
 use Rattle.std.specs.Prelude.{◌↔◌, Bool, ◌&&◌, ◌||◌, eqb}
-use Rattle.std.proofs.Math.Logic.{Iff·rfl, Iff·trans, Iff·and}
+use Rattle.std.proofs.Math.Logic.Iff
 use Rattle.std.proofs.Math.Bool.{true, false, cond}
 use mathlib.Core.List.{List, [], ◌∷◌}
 use Prim.Native.Nat.{ℕ, zero, suc, ◌+◌, ◌-◌, ◌*◌, ◌/◌, ◌%◌, ◌≤◌, ◌<◌}
@@ -188,7 +188,7 @@ module _ (s : Settings) (part sup l : List ℕ) where
       (NoneGiven table × FirstAt s.w s.h s.n 0 overlaps (record { layer = i; row = r; column = c }))
   unfolding verdict_of
   judge_overlap i r c =
-      Iff·trans (judge_finds 9 i r c) (Iff·and Iff·rfl (
+      Iff.trans (judge_finds 9 i r c) (Iff.and Iff.rfl (
       told_overlap s.w s.h s.n (bound_of s) P T (ring_at s.w s.h l) (record { layer = i; row = r; column = c })))
 
   -- 10: the first bad ring, where no pixel overlaps
@@ -196,7 +196,7 @@ module _ (s : Settings) (part sup l : List ℕ) where
       (NoneGiven table × (Nowhere s.w s.h s.n overlaps × FirstAt s.w s.h (s.n - 1) 1 bad_rings (record { layer = i; row = r; column = c })))
   unfolding verdict_of
   judge_bad_ring i r c =
-      Iff·trans (judge_finds 10 i r c) (Iff·and Iff·rfl (
+      Iff.trans (judge_finds 10 i r c) (Iff.and Iff.rfl (
       told_bad_ring s.w s.h s.n (bound_of s) P T (ring_at s.w s.h l) (record { layer = i; row = r; column = c })))
 
   -- 11 and 19: the first unheld pixel, where no pixel overlaps and no ring is bad, and the number is read off there
@@ -206,7 +206,7 @@ module _ (s : Settings) (part sup l : List ℕ) where
       × (cond (P i (r * s.w + c)) 11 19 ≡ k)))
   unfolding verdict_of
   judge_unheld k i r c n9 n10 =
-      Iff·trans (judge_finds k i r c) (Iff·and Iff·rfl (
+      Iff.trans (judge_finds k i r c) (Iff.and Iff.rfl (
       told_unheld s.w s.h s.n (bound_of s) P T (ring_at s.w s.h l) k (record { layer = i; row = r; column = c }) n9 n10))
 
   -- "11 only for a part pixel"

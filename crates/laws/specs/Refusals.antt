@@ -23,7 +23,7 @@ given_in (c ∷ cs) k e =
     (λ t. let g : Given c.number (c ∷ cs) = here {b = c.applies} {cs = cs} t in subst (λ (j : ℕ). Given j (c ∷ cs)) (rw t at e) g)
     (λ t. later {j = c.number} {b = c.applies} {cs = cs} t (given_in cs k (rw t at e)))
 
-given_out : {cs : List Case} {k : ℕ} → Given k cs → refusal cs ≡ k
+given_out : {k : ℕ} {cs : List Case} → Given k cs → refusal cs ≡ k
 given_out (here t) = rw t
 given_out (later t r) = rw t (given_out r)
 

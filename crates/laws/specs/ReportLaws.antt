@@ -1,7 +1,7 @@
 -- The report: its example, and that a printed number is the number.
 use Rattle.std.specs.Prelude.{◌≡◌, refl, ◌↔◌, Bool, length, get_or, take}
 use Rattle.std.proofs.Common.{sym, ap, ap₂, ◌∙◌, arith, length-append, drop_of_length-le, take-append-drop, ltb-true, ltb-false, lt-ltb, le-ltb}
-use Rattle.std.proofs.Math.Logic.{Iff·trans}
+use Rattle.std.proofs.Math.Logic.Iff
 use Rattle.std.proofs.Math.Bool.{true, false, cond}
 use mathlib.Core.List.{List, [], ◌∷◌, ◌++◌, append-nil, append_assoc}
 use Prim.Native.Nat.{ℕ, zero, suc, ◌+◌, ◌-◌, ◌*◌, ◌/◌, ◌%◌, ◌≤◌, ◌<◌}
@@ -249,10 +249,10 @@ module _ (f : List ℕ) where
 
   -- `refused 7 1 0` and its like: 7 is printed with the first row of the part whose padding is set, and 8 with that of the support
   pub report_part_row : (i r : ℕ) → (report_of f ≡ refused_line (7 ∷ i ∷ r ∷ [])) ↔ (Given 7 (report_cases f) × FirstRow (settings_in f).w (settings_in f).h (settings_in f).n (part_in f) i r)
-  report_part_row i r = Iff·trans (report_line 6 (i ∷ r ∷ [])) (report_tells.part_row i r)
+  report_part_row i r = Iff.trans (report_line 6 (i ∷ r ∷ [])) (report_tells.part_row i r)
 
   pub report_support_row : (i r : ℕ) → (report_of f ≡ refused_line (8 ∷ i ∷ r ∷ [])) ↔ (Given 8 (report_cases f) × FirstRow (settings_in f).w (settings_in f).h (settings_in f).n (support_in f) i r)
-  report_support_row i r = Iff·trans (report_line 7 (i ∷ r ∷ [])) (report_tells.support_row i r)
+  report_support_row i r = Iff.trans (report_line 7 (i ∷ r ∷ [])) (report_tells.support_row i r)
 
 pub take_all : (n : ℕ) (l : List ℕ) → length l ≤ n → take n l ≡ l
 take_all n l h = sym (append-nil (take n l)) ∙ ap (λ (x : List ℕ). take n l ++ x) (sym (drop_of_length-le l h)) ∙ take-append-drop n l

@@ -1,1 +1,3 @@
 // Theorems about the rules, in specs/. No code.
+
+#![tactic(auto)]

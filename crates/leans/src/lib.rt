@@ -1,4 +1,6 @@
 // Whether the rings of a row are good by themselves: ring 1 on one of the first pixels, a larger one beside the ring before it.
+#![tactic(auto)]
+
 pub mod bits;
 pub mod eights;
 pub mod marks;
@@ -6,7 +8,7 @@ pub mod steps;
 pub mod words64;
 
 // What 64 pixels tell: whether their rings are good, which of them have one, and a number that none of them exceeds.
-#[derive(Drop)]
+#[derive(Clone, Copy)]
 pub struct Told {
     pub good: bool,
     pub got: u64,
@@ -14,7 +16,7 @@ pub struct Told {
 }
 
 // What a row tells: whether its rings are good but for nearness, whether each pixel that hangs has one, and a number that none exceeds.
-#[derive(Drop)]
+#[derive(Clone, Copy)]
 pub struct Line {
     pub rings: bool,
     pub held: bool,

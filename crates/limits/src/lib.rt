@@ -1,4 +1,6 @@
 // What calls test first: settings, lengths and padding. Reach and bound, the only ways from micrometres to pixels.
+#![tactic(auto)]
+
 ghost use Rattle.std.specs.Prelude.{◌≡◌, cond, [], ◌∷◌, ℕ, ◌+◌, ◌-◌, ◌*◌, ◌^◌, ◌<◌, ◌≤◌, length};
 ghost use Rattle.rules.specs.Tools.{◌when◌, refusal};
 ghost use Rattle.rules.specs.Images as images;

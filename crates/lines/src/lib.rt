@@ -1,4 +1,6 @@
 // The text of the report: words and numbers in decimal, each written at a place of a lent buffer; and its lines.
+#![tactic(auto)]
+
 mod counts; // counts.rt: pixels counted
 mod output; // output.rt: the whole output for an input
 

@@ -1,4 +1,6 @@
 // Small functions on numbers and truth values, for every crate.
+#![tactic(auto)]
+
 ghost use Rattle.std.specs.Prelude.{◌≡◌, ◌&&◌, ◌||◌, ◌-◌, ◌<◌, min};
 
 pub fn wide(x: u8) -> usize

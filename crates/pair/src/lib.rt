@@ -1,4 +1,6 @@
 // One pair of layers: its rings, and the support of its lower layer.
+#![tactic(auto)]
+
 pub mod bare;
 pub mod rows;
 

@@ -1,6 +1,8 @@
 // Runs every bench piece of docs/RULES.md through the public calls, and then the ends of the limits. A planned piece shows its number, its
 // support in hexadecimal and its rings; a cleaned one its number, its planned support and its cleaned; one with posts its number and them; a checked
 // one its number and place.
+#![tactic(auto)]
+
 ghost use Rattle.std.specs.Prelude.{◌≡◌, ◌≤◌, ◌<◌, length};
 
 use clean::clean;

@@ -1,4 +1,6 @@
 // Planning: support and ring numbers of a stack, from the top layer down. The call refuses, or works, and answers.
+#![tactic(auto)]
+
 pub mod stack;
 
 ghost use Rattle.rules.specs.Outcomes.{Plans};

@@ -1,4 +1,6 @@
 // Posts: single pixels that hold a part from below, for resin machines. The call refuses, or works, and answers.
+#![tactic(auto)]
+
 pub mod layer;
 pub mod scan;
 pub mod stack;

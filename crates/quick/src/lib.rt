@@ -1,5 +1,7 @@
 // Whether a pair of layers, or a stack, has no bad ring and no unheld pixel: by rows of words, without telling where. Only a yes is relied
 // on: after a no the pixels are looked at one by one.
+#![tactic(auto)]
+
 pub mod layers;
 pub mod looks;
 pub mod pair;
@@ -9,14 +11,14 @@ pub mod stack;
 use words::Row;
 
 // What is sure of a pair: that no ring is bad, and that nothing is unheld.
-#[derive(Drop)]
+#[derive(Clone, Copy)]
 pub struct Sure {
     pub rings: bool,
     pub held: bool,
 }
 
 // What the bytes of a pair tell, joined: its shadow, and the support that hangs over neither part nor support.
-#[derive(Drop)]
+#[derive(Clone, Copy)]
 pub struct Seen {
     pub shadow: u8,
     pub hung: u8,
@@ -24,7 +26,7 @@ pub struct Seen {
 
 // What a row tells: whether its rings are good but for nearness, whether each pixel that hangs has one, and in `far` the pixels whose ring
 // may be far.
-#[derive(Drop)]
+#[derive(Clone, Copy)]
 pub struct Passed {
     pub rings: bool,
     pub held: bool,
@@ -32,7 +34,7 @@ pub struct Passed {
 }
 
 // Whether far rings are near, and whether the lower layer is drawn in scratch by now.
-#[derive(Drop)]
+#[derive(Clone, Copy)]
 pub struct Close {
     pub good: bool,
     pub drawn: bool,

@@ -1,4 +1,6 @@
 // The report program: reads a job from standard input, plans it afresh and prints what was planned.
+#![tactic(auto)]
+
 use libc::{STDIN_FILENO, STDOUT_FILENO};
 
 fn main() {

@@ -1,4 +1,6 @@
 // Rings of one pair of layers: over the near shadow pixels, from the seeds.
+#![tactic(auto)]
+
 pub mod far;
 
 ghost use Rattle.std.specs.Prelude.{◌≡◌, Bool, true, ℕ, ◌*◌, ◌<◌, ◌≤◌};

@@ -1,4 +1,6 @@
 // Roots from a table, and how far a disc runs to each side in a row.
+#![tactic(auto)]
+
 mod table;
 
 ghost use Rattle.std.specs.Prelude.{◌≡◌, ◌+◌, ◌-◌, ◌*◌, ◌<◌, ◌≤◌, length};

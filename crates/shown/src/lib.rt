@@ -1,4 +1,6 @@
 // How the programs that run the calls print: words, numbers and refusals.
+#![tactic(auto)]
+
 use libc::STDOUT_FILENO;
 use rules::Refusal;
 

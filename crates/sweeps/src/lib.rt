@@ -1,4 +1,6 @@
 // Rings by sweeps: marked pixels tell their neighbours, row by row, until no mark is left.
+#![tactic(auto)]
+
 pub mod levels;
 pub mod marks;
 pub mod sweeps;
