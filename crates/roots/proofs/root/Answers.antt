@@ -1,3 +1,6 @@
+
+use Rattle.roots.proofs.root.Goals as goal
+
 -- The rule of the table, once over all of it: its entries are held against the 32 runs of roots, by computing.
 use mathlib.Core.Path.{◌∙◌}
 use Rattle.rules.specs.Tools.{joined_up}
@@ -6,11 +9,6 @@ use borrow.Author.Rules.{rules}
 use Rattle.roots.proofs.root.Statement.{statement}
 use Rattle.roots.proofs.root.Tie as tie
 
-returns : tie.Need-returns
+pub returns : goal.returns
 unfolding joined_up
-returns c = c.wide.ensures.0 ∙ table_rule c.before.args.m c.before.requires
-
-pub root-spec : {M : Type 1} → statement M
-root-spec =
-    tie.close
-    (tie.spec (λ c. search rules) (λ c κs. search rules) returns)
+returns c = c.wide.ensures.0 ∙ table_rule c.args.m c.requires

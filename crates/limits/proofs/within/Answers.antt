@@ -1,0 +1,11 @@
+use borrow.Author.Tests.{le-leb, lt-leb}
+use Rattle.rules.specs.Images as images
+use Rattle.limits.proofs.within.Goals as goal
+
+pub returns-then-low-x : goal.returns-then-low-x
+unfolding images.within
+returns-then-low-x c = simp (le-leb _ _ c.if-low-x.true)
+
+pub returns-else-low-x : goal.returns-else-low-x
+unfolding images.within
+returns-else-low-x c = simp (lt-leb _ _ c.if-low-x.false)

@@ -1,0 +1,12 @@
+use native.Mathlib.Nat.{mul-le-mul}
+use mathlib.Core.Path.{sym, ◌∙◌}
+use Prim.Native.Nat.{◌-◌, ◌≤◌}
+use Rattle.laws.specs.Discs.{HalvesTo, halves_none, halves_more, halves_all, square_small, some_row}
+use native.Mathlib.Omega.{arith}
+use Rattle.roots.proofs.all_halves.Given as goal
+
+abbrev pub invariant-loop-d : goal.invariant-loop-d
+invariant-loop-d l = HalvesTo l.q l.d l.out × (l.d ≤ 33)
+
+abbrev pub decreases-loop-d : goal.decreases-loop-d
+decreases-loop-d l = 33 - l.d
