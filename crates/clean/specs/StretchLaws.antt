@@ -8,7 +8,7 @@ use Rattle.std.proofs.Math.Decide.{dec_lt, ℕ_discrete}
 use Rattle.std.specs.Int.Bits.{bit_and, bit_or}
 use Rattle.std.proofs.Math.ListN.{get_or-eq_default}
 use Rattle.rules.specs.Images.{bit_at}
-use Rattle.image.specs.Bits.{bit_and, bit_or, bit_not, zero_bit, byte_but_not, or_none}
+use Rattle.image.specs.Bits.{bit_and_lem, bit_or_lem, bit_not, zero_bit, byte_but_not, or_none}
 use Rattle.image.specs.Filling.{Filling, filling_more, bit_here}
 use Rattle.image.specs.Loops.{but_not}
 use Rattle.image.specs.Scratch.{bit_of}
@@ -82,7 +82,7 @@ module _ (at size i : ℕ) (part support wide clean now : List ℕ) (lp : get_or
       let up : size * 8 + ((at + i) * 8 + m) ≡ (at + i + size) * 8 + m = omega arith in
       let own : (at + i) * 8 + m - at * 8 ≡ i * 8 + m = omega arith in
       rw (up, own, bit_here clean (at + i + size) m lm, bit_here wide i m lm, bit_here part (at + i) m lm, bit_here part (at + i + size) m lm, bit_here support (at + i) m lm)
-      (bit_and _ _ m ∙ ap₂ ◌&&◌ (bit_and _ _ m ∙ ap₂ ◌&&◌ (bit_or _ _ m) (bit_not (get_or part (at + i) 0) m lp lm)) (bit_or _ _ m ∙ ap (λ (b : Bool). b || bit_at (get_or support (at + i) 0) m) (bit_not (get_or part (at + i + size) 0) m lu lm)))
+      (bit_and_lem _ _ m ∙ ap₂ ◌&&◌ (bit_and_lem _ _ m ∙ ap₂ ◌&&◌ (bit_or_lem _ _ m) (bit_not (get_or part (at + i) 0) m lp lm)) (bit_or_lem _ _ m ∙ ap (λ (b : Bool). b || bit_at (get_or support (at + i) 0) m) (bit_not (get_or part (at + i + size) 0) m lu lm)))
 
   pub join_more : at + i < length now → Filling at (at + i) (joined_bit at size part support wide clean) now clean →
       Filling at (at + (i + 1)) (joined_bit at size part support wide clean)

@@ -25,16 +25,16 @@ module _ (op : ℕ → ℕ → ℕ) (t : Bool → Bool → Bool)
       ap (λ (n : ℕ). eqb n 1) (ap (λ (n : ℕ). n % 2) (shr x y (7 - k)) ∙ rest (x / 2 ^ (7 - k)) (y / 2 ^ (7 - k)) 1)
       ∙ table (x / 2 ^ (7 - k) % 2) (y / 2 ^ (7 - k) % 2) (omega arith) (omega arith)
 
-pub bit_and : (x y k : ℕ) → bit_at (bit_and x y) k ≡ bit_at x k && bit_at y k
-bit_and =
+pub bit_and_lem : (x y k : ℕ) → bit_at (bit_and x y) k ≡ bit_at x k && bit_at y k
+bit_and_lem =
     bit_op bit_and ◌&&◌ and_shr and_mod
     (λ x y l m.
     bit_cases (λ a. eqb (bit_and a y) 1 ≡ eqb a 1 && eqb y 1) x l
     (bit_cases (λ b. eqb (bit_and 0 b) 1 ≡ eqb 0 1 && eqb b 1) y m refl refl)
     (bit_cases (λ b. eqb (bit_and 1 b) 1 ≡ eqb 1 1 && eqb b 1) y m refl refl))
 
-pub bit_or : (x y k : ℕ) → bit_at (bit_or x y) k ≡ bit_at x k || bit_at y k
-bit_or =
+pub bit_or_lem : (x y k : ℕ) → bit_at (bit_or x y) k ≡ bit_at x k || bit_at y k
+bit_or_lem =
     bit_op bit_or ◌||◌ or_shr or_mod
     (λ x y l m.
     bit_cases (λ a. eqb (bit_or a y) 1 ≡ eqb a 1 || eqb y 1) x l
@@ -89,7 +89,7 @@ abbrev pub Byte2 : (Bool → Bool → Bool) → ℕ → ℕ → ℕ → Type 0
 Byte2 t o x y = (k : ℕ) → k < 8 → bit_at o k ≡ t (bit_at x k) (bit_at y k)
 
 pub byte_but_not : (x y : ℕ) → y < 256 → Byte2 but_not (bit_and x (255 - y)) x y
-byte_but_not x y h k l = bit_and x (255 - y) k ∙ ap (λ (b : Bool). bit_at x k && b) (bit_not y k h l)
+byte_but_not x y h k l = bit_and_lem x (255 - y) k ∙ ap (λ (b : Bool). bit_at x k && b) (bit_not y k h l)
 
 -- an OR that is 0
 pub or_none : (a b : ℕ) → bit_or a b ≡ 0 → (a ≡ 0) × (b ≡ 0)

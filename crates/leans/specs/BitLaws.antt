@@ -24,9 +24,9 @@ pub row_start : (l : List ℕ) (c : ℕ) → c < 256 → row_at l 0 c ≡ word_b
 unfolding row_at
 row_start l c h = let z : 0 * 64 + c ≡ c = omega arith in rw (lt-ltb c 256 h, z)
 
-pub bit_or : (x y k : ℕ) → bit_of_word (bit_or x y) k ≡ (bit_of_word x k || bit_of_word y k)
+pub bit_or_lem : (x y k : ℕ) → bit_of_word (bit_or x y) k ≡ (bit_of_word x k || bit_of_word y k)
 unfolding bit_of_word
-bit_or x y k = place_or x y (63 - k)
+bit_or_lem x y k = place_or x y (63 - k)
 
 pub bit_zero : (k : ℕ) → bit_of_word 0 k ≡ false
 unfolding bit_of_word
@@ -75,7 +75,7 @@ but_not_bit x y k ly lk = place_and x (2 ^ 64 - 1 - y) (63 - k) ∙ ap (λ (b : 
 
 pub patched_bit : (x y b k : ℕ) → b < 8 → k < 64 → bit_of_word (bit_or (bit_and x (2 ^ 64 - 1 - 255 * 2 ^ (56 - 8 * b) % 2 ^ 64)) y) k ≡ ((bit_of_word x k && not (eqb (k / 8) b)) || bit_of_word y k)
 patched_bit x y b k lb lk =
-    bit_or (bit_and x (2 ^ 64 - 1 - 255 * 2 ^ (56 - 8 * b) % 2 ^ 64)) y k
+    bit_or_lem (bit_and x (2 ^ 64 - 1 - 255 * 2 ^ (56 - 8 * b) % 2 ^ 64)) y k
     ∙ ap (λ (a : Bool). a || bit_of_word y k) (but_not_bit x (255 * 2 ^ (56 - 8 * b) % 2 ^ 64) k (mod-lt (255 * 2 ^ (56 - 8 * b)) (omega arith)) lk
     ∙ ap (λ (m : Bool). bit_of_word x k && not m) (mask_bit b k lb lk))
 

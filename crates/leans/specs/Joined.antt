@@ -14,7 +14,7 @@ use Rattle.places.specs.Rows.{area_fit}
 use Rattle.words.specs.Words.{bit_of_word, word_bit}
 use Rattle.leans.specs.Leaning.{Alike, Step, Good, Got, Tells}
 use Rattle.leans.specs.declared.Told.{Told}
-use Rattle.leans.specs.BitLaws.{bit_zero, bit_or, bit_at_lem, word_bit_lem, covered_bit}
+use Rattle.leans.specs.BitLaws.{bit_zero, bit_or_lem, bit_at_lem, word_bit_lem, covered_bit}
 
 -- Rings joined -----------------------------------------------------------------------------------------------------------
 
@@ -123,10 +123,10 @@ module _ (w : ℕ) (rings : List ℕ) (at x a k got : ℕ) where
   -- one more pixel that has a ring: b is its bit
   pub got_some : (b : ℕ) → ((j : ℕ) → j < 64 → bit_of_word b j ≡ eqb j k) → 0 < get_or rings (at + (x + k)) 0 → a ≤ k → k < 64 → Got w rings at x a k got → Got w rings at x a (k + 1) (bit_or got b)
   got_some b is pos la lk g = record {
-    has = λ j lo hi lw. bit_or got b j ∙ split (ltb j k)
+    has = λ j lo hi lw. bit_or_lem got b j ∙ split (ltb j k)
         (λ t. let l : j < k = ltb-true j k t in rw (is j (omega arith), ne_eqb j k (λ z. omega arith), or_false (bit_of_word got j)) (g.has j lo l lw))
         (λ t. let z : j ≡ k = omega (arith, ltb-false j k t) in rw (z, is k lk, eq-eqb k k refl, or_yes (bit_of_word got k), lt-ltb 0 (get_or rings (at + (x + k)) 0) pos));
-    only = λ j l out. bit_or got b j ∙ rw (is j l, ne_eqb j k (λ z. out (omega arith) (omega arith)), or_false (bit_of_word got j)) (g.only j l (λ u v. out u (omega arith)));
+    only = λ j l out. bit_or_lem got b j ∙ rw (is j l, ne_eqb j k (λ z. out (omega arith) (omega arith)), or_false (bit_of_word got j)) (g.only j l (λ u v. out u (omega arith)));
   }
 
 module _ (w h : ℕ) (rings : List ℕ) (r x free first b : ℕ) where

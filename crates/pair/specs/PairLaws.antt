@@ -13,7 +13,7 @@ use Rattle.rules.specs.Images.{Plane, bit_at, row_bytes}
 use Rattle.rules.specs.Planning.{touch, shadow, seeds, near, reached}
 use Rattle.laws.specs.Growing.{grown_same, grown_none}
 use Rattle.laws.specs.Closing.{near_same}
-use Rattle.image.specs.Bits.{bit_and, bit_or, bit_not, zero_bit, byte_but_not}
+use Rattle.image.specs.Bits.{bit_and_lem, bit_or_lem, bit_not, zero_bit, byte_but_not}
 use Rattle.image.specs.Filling.{bit_here}
 use Rattle.image.specs.Loops.{Bits, but_not}
 use Rattle.image.specs.Planes.{row_fits}
@@ -60,9 +60,9 @@ none_hangs low up n t all e j lj = all (eqb-true t 0 (not-false (eqb t 0) e)) (j
 pub support_byte : (rest low above : List ℕ) (i : ℕ) → get_or low i 0 < 256 → (m : ℕ) → m < 8
     → bit_at (bit_and (bit_or (get_or rest i 0) (get_or above i 0)) (255 - get_or low i 0)) m ≡ (bit_of rest (i * 8 + m) || bit_of above (i * 8 + m)) && not (bit_of low (i * 8 + m))
 support_byte rest low above i y m l =
-    bit_and (bit_or (get_or rest i 0) (get_or above i 0)) (255 - get_or low i 0) m
+    bit_and_lem (bit_or (get_or rest i 0) (get_or above i 0)) (255 - get_or low i 0) m
     ∙ ap₂ ◌&&◌
-    (bit_or (get_or rest i 0) (get_or above i 0) m ∙ ap₂ ◌||◌ (sym (bit_here rest i m l)) (sym (bit_here above i m l)))
+    (bit_or_lem (get_or rest i 0) (get_or above i 0) m ∙ ap₂ ◌||◌ (sym (bit_here rest i m l)) (sym (bit_here above i m l)))
     (bit_not (get_or low i 0) m y l ∙ ap not (sym (bit_here low i m l)))
 
 -- the bytes of a packed plane, as the code counts them

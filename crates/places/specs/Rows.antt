@@ -9,7 +9,7 @@ use Rattle.laws.specs.Places.{digits_in}
 use Rattle.places.specs.Search.{FirstOf, overlap_here, overlap_in, Sized}
 use Rattle.places.specs.BitLaws.{byte_in, no_bit}
 use Rattle.places.specs.Finding.{least_none}
-use Rattle.image.specs.Bits.{bit_and}
+use Rattle.image.specs.Bits.{bit_and_lem}
 use Rattle.image.specs.Rows.{packed}
 use Rattle.image.specs.Packed.{row_bit_lem}
 use Rattle.places.specs.Planes.{row_in, cut, cut_length}
@@ -19,7 +19,7 @@ use Rattle.places.specs.Planes.{row_in, cut, cut_length}
 pub overlap_byte : (part sup : List ℕ) (at c b j : ℕ) → c % 8 ≡ 0 → b ≡ at + c / 8 → j < 8 → overlap_in part sup at (c + j) ≡ bit_at (bit_and (get_or sup b 0) (get_or part b 0)) j
 unfolding overlap_in
 overlap_byte part sup at c b j z e l =
-    ap₂ (λ (u v : Bool). u && v) (byte_in sup at c j z l) (byte_in part at c j z l) ∙ rw (← e) (sym (bit_and (get_or sup b 0) (get_or part b 0) j))
+    ap₂ (λ (u v : Bool). u && v) (byte_in sup at c j z l) (byte_in part at c j z l) ∙ rw (← e) (sym (bit_and_lem (get_or sup b 0) (get_or part b 0) j))
 
 -- what is gathered by `or` is 0 only where each part is
 pub gather_more : (P : ℕ → Type 0) (j acc m : ℕ) → (acc ≡ 0 → (k : ℕ) → k < j → P k) → (m ≡ 0 → P j) → bit_or acc m ≡ 0 → (k : ℕ) → k < j + 1 → P k
@@ -29,7 +29,7 @@ gather_more P j acc m all here e =
     below_more P j (all a) (here b)
 
 pub apart_byte : (x y m : ℕ) → m ≡ bit_and x y → m ≡ 0 → (k : ℕ) → k < 8 → (bit_at x k && bit_at y k) ≡ false
-apart_byte x y m e z k l = sym (bit_and x y k) ∙ no_bit (bit_and x y) k (sym e ∙ z)
+apart_byte x y m e z k l = sym (bit_and_lem x y k) ∙ no_bit (bit_and x y) k (sym e ∙ z)
 
 -- the byte of a pixel
 pub byte_of : (w h n p : ℕ) → n ≡ h * row_bytes w → p < h * w → p / w * row_bytes w + p % w / 8 < n

@@ -19,7 +19,7 @@ use Rattle.laws.specs.Demand3.{bytes_of_clear}
 use Rattle.laws.specs.PixelBytes.{pixel_bytes}
 use Rattle.laws.specs.PostLayers.{spared_is, spared_as_planned, below_is, below_none}
 use Rattle.laws.specs.Tests.{split, clash, and_l, and_r, length_each, each_same}
-use Rattle.image.specs.Bits.{bit_and, bit_or, zero_bit, byte_but_not}
+use Rattle.image.specs.Bits.{bit_and_lem, bit_or_lem, zero_bit, byte_but_not}
 use Rattle.image.specs.Filling.{bit_here}
 use Rattle.image.specs.Loops.{Bits, but_not}
 use Rattle.image.specs.Packed.{plane_at, plane_pixel, plane_clean, plane_bytes_lem, stack_plane}
@@ -56,7 +56,7 @@ NoneShared n all up = (k : ℕ) → k < n → (m : ℕ) → m < 8 → (bit_at (g
 pub shared_more : (all up : List ℕ) (i : ℕ) → bit_and (get_or all i 0) (get_or up i 0) ≡ 0 → NoneShared i all up → NoneShared (i + 1) all up
 shared_more all up i e f k lk m lm = elim (dec_lt k i) [
   | yes x ↦ f k x m lm
-  | no x ↦ let k' : k ≡ i = omega arith in rw k' (sym (bit_and (get_or all i 0) (get_or up i 0) m) ∙ ap (λ (v : ℕ). bit_at v m) e ∙ zero_bit m)
+  | no x ↦ let k' : k ≡ i = omega arith in rw k' (sym (bit_and_lem (get_or all i 0) (get_or up i 0) m) ∙ ap (λ (v : ℕ). bit_at v m) e ∙ zero_bit m)
 ]
 
 pub shared_none : (all up : List ℕ) (n t : ℕ) → (t ≡ 0 → NoneShared n all up) → not (eqb t 0) ≡ false → (j : ℕ) → j < n * 8 → (bit_of all j && bit_of up j) ≡ false
@@ -71,8 +71,8 @@ pub join_byte : (s up above low : List ℕ) (i : ℕ) → get_or low i 0 < 256 �
     → bit_at (bit_or (bit_and (get_or s i 0) (get_or up i 0)) (bit_and (get_or above i 0) (255 - get_or low i 0))) m
     ≡ ((bit_of s (i * 8 + m) && bit_of up (i * 8 + m)) || (bit_of above (i * 8 + m) && not (bit_of low (i * 8 + m))))
 join_byte s up above low i y m l =
-    bit_or (bit_and (get_or s i 0) (get_or up i 0)) (bit_and (get_or above i 0) (255 - get_or low i 0)) m
-    ∙ ap₂ ◌||◌ (bit_and (get_or s i 0) (get_or up i 0) m ∙ ap₂ ◌&&◌ (sym (bit_here s i m l)) (sym (bit_here up i m l))) (from_byte above low i y m l)
+    bit_or_lem (bit_and (get_or s i 0) (get_or up i 0)) (bit_and (get_or above i 0) (255 - get_or low i 0)) m
+    ∙ ap₂ ◌||◌ (bit_and_lem (get_or s i 0) (get_or up i 0) m ∙ ap₂ ◌&&◌ (sym (bit_here s i m l)) (sym (bit_here up i m l))) (from_byte above low i y m l)
 
 -- One layer ----------------------------------------------------------------------------------------------------------------
 

@@ -17,7 +17,7 @@ use Rattle.rules.specs.Posts.{plane_of, spared, scanned, listed}
 use Rattle.rules.specs.Tools.{count, each}
 use Rattle.laws.specs.PostLayers.{FirstLeft, spared_same, spared_left, spared_own, scan_end, scan_first}
 use Rattle.laws.specs.Tests.{split, clash, or_false, get_d_each, length_each, count_le, count_more}
-use Rattle.image.specs.Bits.{bit_or, eight}
+use Rattle.image.specs.Bits.{bit_or_lem, eight}
 use Rattle.image.specs.Rows.{packed, Clean}
 use Rattle.image.specs.Scratch.{bit_of}
 use Rattle.words.specs.Words.{word_bit, bit_of_word}
@@ -45,7 +45,7 @@ unfolding bit_of
 pixel_set l at c h j = elim (ℕ_discrete (j / 8) (at + c / 8)) [
   | yes e ↦ rw e (
       ap (λ (b : ℕ). bit_at b (j % 8)) (get_or-set_same l (at + c / 8) _ 0 h)
-      ∙ bit_or (get_or l (at + c / 8) 0) (128 / 2 ^ (c % 8)) (j % 8)
+      ∙ bit_or_lem (get_or l (at + c / 8) 0) (128 / 2 ^ (c % 8)) (j % 8)
       ∙ ap (λ (b : Bool). bit_at (get_or l (at + c / 8) 0) (j % 8) || b) (one_bit (c % 8) (omega arith) (j % 8) (omega arith) ∙ same e))
   | no e ↦
       ap (λ (b : ℕ). bit_at b (j % 8)) (get_or-set_other l (at + c / 8) (j / 8) _ 0 e)

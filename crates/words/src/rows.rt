@@ -257,16 +257,16 @@ pub fn but_not(x: Row, y: Row) -> Row
 }
 
 fn any_words(a: u64, b: u64, c: u64, d: u64) -> bool
-    ensures k_value { result ≡ false → (k : ℕ) → word_bit (a ∷ b ∷ c ∷ d ∷ []) k ≡ false }
-    ensures by_index { result ≡ true → (k : ℕ) × (k < 256) × (word_bit (a ∷ b ∷ c ∷ d ∷ []) k ≡ true) }
+    ensures none { result ≡ false → (k : ℕ) → word_bit (a ∷ b ∷ c ∷ d ∷ []) k ≡ false }
+    ensures some { result ≡ true → (k : ℕ) × (k < 256) × (word_bit (a ∷ b ∷ c ∷ d ∷ []) k ≡ true) }
 {
     a | b | c | d != 0
 }
 
 // Whether there is a pixel.
 pub fn any(x: Row) -> bool
-    ensures c_value { result ≡ false → (c : ℕ) → column x c ≡ false }
-    ensures by_index { result ≡ true → (c : ℕ) × (c < 256) × (column x c ≡ true) }
+    ensures none { result ≡ false → (c : ℕ) → column x c ≡ false }
+    ensures some { result ≡ true → (c : ℕ) × (c < 256) × (column x c ≡ true) }
 {
     any_words(x.a, x.b, x.c, x.d)
 }

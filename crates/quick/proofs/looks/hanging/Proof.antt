@@ -1,4 +1,4 @@
-use Rattle.image.specs.Bits.{bit_and, bit_or, bit_not}
+use Rattle.image.specs.Bits.{bit_and_lem, bit_or_lem, bit_not}
 use lib.Bits.{or_lt}
 use Rattle.rules.specs.Images.{bit_at}
 use mathlib.Core.Path.{ap, ◌∙◌}
@@ -8,8 +8,8 @@ use Rattle.quick.proofs.looks.hanging.Statement.{statement}
 use Rattle.quick.proofs.looks.hanging.Tie as tie
 
 returns : tie.Need-returns
-returns c = λ k l. bit_and c.args.above _ k ∙ ap (λ (b : Bool). bit_at c.args.above k && b)
-    (bit_not _ k (or_lt 8 c.args.low c.args.below (search rules) (search rules)) l ∙ ap not (bit_or c.args.low c.args.below k))
+returns c = λ k l. bit_and_lem c.args.above _ k ∙ ap (λ (b : Bool). bit_at c.args.above k && b)
+    (bit_not _ k (or_lt 8 c.args.low c.args.below (search rules) (search rules)) l ∙ ap not (bit_or_lem c.args.low c.args.below k))
 
 pub hanging-spec : {M : Type 1} → statement M
 hanging-spec =

@@ -1,0 +1,13 @@
+use mathlib.Core.Path.{◌≡◌}
+use Prim.Native.Nat.{◌+◌, ◌-◌, ◌*◌, ◌≤◌}
+use native.Mathlib.Omega.{arith}
+use borrow.Author.Rules.{rules}
+use Rattle.words.specs.Words.{bit_of_word}
+use Rattle.words.specs.WordLaws.{Filling, filling_all, filling_from, put_more, within_bytes}
+use Rattle.words.proofs.bytes.put.Given as goal
+
+abbrev pub invariant-loop-k : goal.invariant-loop-k
+invariant-loop-k l = (l.k ≤ l.n) × Filling 8 l.at (l.at + l.k) (λ j. bit_of_word l.x (j - l.at * 8)) l.out l.initial.out
+
+abbrev pub decreases-loop-k : goal.decreases-loop-k
+decreases-loop-k l = l.n - l.k

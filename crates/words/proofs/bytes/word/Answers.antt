@@ -1,0 +1,19 @@
+use mathlib.Core.Path.{◌≡◌}
+use Prim.Native.Nat.{◌-◌, ◌*◌, ◌≤◌}
+use native.Mathlib.Omega.{arith}
+use borrow.Author.Rules.{rules}
+use Rattle.words.specs.WordLaws.{Leading, leading_none, leading_more, leading_all}
+use Rattle.image.specs.Scratch.{bit_of}
+use Rattle.words.proofs.bytes.word.Goals as goal
+
+pub loop-k-init : goal.loop-k-init
+loop-k-init c = (omega arith, leading_none _ _)
+
+pub loop-k-smaller : goal.loop-k-smaller
+loop-k-smaller c = omega arith
+
+pub loop-k-preserved : goal.loop-k-preserved
+loop-k-preserved c = (omega arith, leading_more c.args.s.now c.args.at c.loop-k.k c.loop-k.v c.long.result (omega arith) c.long.ensures c.loop-k.invariant.1)
+
+pub returns : goal.returns
+returns c = let e : c.loop-k.k ≡ 8 = omega arith in leading_all _ _ _ (rw e at c.loop-k.invariant.1)

@@ -1,0 +1,13 @@
+use mathlib.Core.Path.{◌≡◌}
+use Prim.Native.Nat.{◌-◌, ◌*◌, ◌≤◌}
+use native.Mathlib.Omega.{arith}
+use borrow.Author.Rules.{rules}
+use Rattle.words.specs.WordLaws.{Leading, leading_none, leading_more, leading_all}
+use Rattle.image.specs.Scratch.{bit_of}
+use Rattle.words.proofs.bytes.word.Given as goal
+
+abbrev pub invariant-loop-k : goal.invariant-loop-k
+invariant-loop-k l = (l.k ≤ 8) × Leading (l.k * 8) (64 - l.k * 8) l.v (l.at * 8) (bit_of l.s)
+
+abbrev pub decreases-loop-k : goal.decreases-loop-k
+decreases-loop-k l = 8 - l.k

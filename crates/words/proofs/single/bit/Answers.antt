@@ -1,0 +1,6 @@
+use Rattle.words.specs.SingleLaws.{one_bit}
+use borrow.Author.Rules.{rules}
+use Rattle.words.proofs.single.bit.Goals as goal
+
+pub returns : goal.returns
+returns c = one_bit c.args.k c.requires

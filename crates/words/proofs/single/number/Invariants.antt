@@ -1,0 +1,10 @@
+use Rattle.words.specs.SingleLaws.{Numbering, numbering_none, numbering_more, numbering_all}
+use native.Mathlib.Omega.{arith}
+use borrow.Author.Rules.{rules}
+use Rattle.words.proofs.single.number.Given as goal
+
+abbrev pub invariant-loop-left : goal.invariant-loop-left
+invariant-loop-left l = Numbering l.x l.m l.v l.left l.initial.l l.l
+
+abbrev pub decreases-loop-left : goal.decreases-loop-left
+decreases-loop-left l = l.left
