@@ -7,7 +7,7 @@ ghost use Rattle.sweeps.specs.Marks.{Cleared, Lit};
 pub fn clear_bit(l: &mut [u64], i: usize, k: usize)
     requires { (i < length l.old) × (k < 64) }
     ensures cleared { Cleared (i * 64 + k) l.new l.old }
-    ensures i_bound { word_bit l.old (i * 64 + k) ≡ true → slice_index l.new i < slice_index l.old i }
+    ensures falls { word_bit l.old (i * 64 + k) ≡ true → slice_index l.new i < slice_index l.old i }
 {
     l[i] = l[i] & !words::single::bit(k);
 }

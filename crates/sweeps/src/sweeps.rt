@@ -18,7 +18,7 @@ fn settle_row(
     r: usize,
 )
     requires { SweepPlanes w h ring.old marks.old got.old cand.now × (r < h) }
-    ensures sweep_planes { SweepPlanes w h ring.new marks.new got.new cand.now }
+    ensures planes { SweepPlanes w h ring.new marks.new got.new cand.now }
     ensures falls { Falls ring.new ring.old ((j : ℕ) → word_bit marks.new j ≡ true → word_bit marks.old j ≡ true) }
     ensures unmarked { Unmarked marks.new (r + 33) × Nearby (r + 33) marks.new marks.old }
     ensures onward { Onward w h ring.new ring.old marks.new marks.old got.new got.old cand.now }
@@ -72,8 +72,8 @@ fn sweep(
     up: bool,
 ) -> bool
     requires { SweepPlanes w h ring.old marks.old got.old cand.now }
-    ensures sweep_planes { SweepPlanes w h ring.new marks.new got.new cand.now }
-    ensures j_after { (result ≡ false → (j : ℕ) → word_bit marks.new j ≡ false) × (result ≡ true → sum_by level ring.new < sum_by level ring.old) }
+    ensures planes { SweepPlanes w h ring.new marks.new got.new cand.now }
+    ensures ends { (result ≡ false → (j : ℕ) → word_bit marks.new j ≡ false) × (result ≡ true → sum_by level ring.new < sum_by level ring.old) }
     ensures onward { Onward w h ring.new ring.old marks.new marks.old got.new got.old cand.now }
 {
     let mut behind = false;
@@ -114,9 +114,9 @@ pub fn settle(
     h: usize,
 )
     requires { SweepPlanes w h ring.old front.now got.old cand.now × (length marks.old ≡ 1610) }
-    ensures by_index { (j : ℕ) → word_bit marks.new j ≡ false }
-    ensures by_index_2 { (j : ℕ) → word_bit got.new j ≡ true → (word_bit got.old j ≡ true) ⊎ (word_bit cand.now j ≡ true) }
-    ensures by_index_3 { (free seed known : ℕ → Bool) → Grows w h free seed known ring.old front.now got.old cand.now
+    ensures unmarked { (j : ℕ) → word_bit marks.new j ≡ false }
+    ensures got_from { (j : ℕ) → word_bit got.new j ≡ true → (word_bit got.old j ≡ true) ⊎ (word_bit cand.now j ≡ true) }
+    ensures grown { (free seed known : ℕ → Bool) → Grows w h free seed known ring.old front.now got.old cand.now
         → (ring.new ≡ grown (h * w) (touch w) free seed (h * w)) × ((p : ℕ) → p < h * w → seen w got.new p ≡ nat_lt 0 (slice_index ring.new p)) }
 {
     copy(front, marks);

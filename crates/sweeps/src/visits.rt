@@ -17,9 +17,9 @@ fn tell_pixel(
     v: u16,
 )
     requires { (i < length marks.old) × (i < length got.old) × (k < 64) × (p < length ring.old) }
-    ensures by_index { (at : ℕ → ℕ) (B : ℕ → Bool) → B (i * 64 + k) ≡ true → at (i * 64 + k) ≡ p →
+    ensures lowers { (at : ℕ → ℕ) (B : ℕ → Bool) → B (i * 64 + k) ≡ true → at (i * 64 + k) ≡ p →
         Lowers at v B ring.old marks.old got.old ring.new marks.new got.new }
-    ensures p_bound { level (slice_index ring.new p) ≤ v + 1 }
+    ensures ring { level (slice_index ring.new p) ≤ v + 1 }
 {
     if crate::levels::above(ring, p, v) {
         ring[p] = v + 1;
@@ -97,7 +97,7 @@ pub fn visit(
     k: usize,
 )
     requires { MarkedPixel w h ring.old marks.old got.old cand.now r q k }
-    ensures sweep_planes { SweepPlanes w h ring.new marks.new got.new cand.now }
+    ensures planes { SweepPlanes w h ring.new marks.new got.new cand.now }
     ensures falls { Falls ring.new ring.old
         (((j : ℕ) → word_bit marks.new j ≡ true → word_bit marks.old j ≡ true)
         × (slice_index marks.new ((r + 33) * 5 + q) < slice_index marks.old ((r + 33) * 5 + q))) }

@@ -68,8 +68,8 @@ pub fn wave_row(
     v: u16,
     ones: &[u16],
 ) -> Gone
-    requires from_len { (length from.now ≡ 1610) × (length to.old ≡ 1610) × (length left.old ≡ 1610) × (length got.old ≡ 1610) × (y < 256) × (w ≤ 256) × Ones ones.now }
-    requires by_index { (c : ℕ) → c < 256 → word_bit left.old ((y + 33) * 320 + c) ≡ true → y * w + c < length ring.old }
+    requires sizes { (length from.now ≡ 1610) × (length to.old ≡ 1610) × (length left.old ≡ 1610) × (length got.old ≡ 1610) × (y < 256) × (w ≤ 256) × Ones ones.now }
+    requires inside { (c : ℕ) → c < 256 → word_bit left.old ((y + 33) * 320 + c) ≡ true → y * w + c < length ring.old }
     ensures { RowWave w y v result.new result.more from.now to.old to.new left.old left.new got.old got.new
         ring.old ring.new }
 {

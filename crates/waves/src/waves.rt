@@ -24,10 +24,10 @@ pub fn wave(
     v: u16,
     ones: &[u16],
 ) -> usize
-    requires wave_planes { WavePlanes w h ahead.now from.now left.old got.old ring.old }
+    requires planes { WavePlanes w h ahead.now from.now left.old got.old ring.old }
     requires room { Room w h ahead.now to.old × Ones ones.now }
-    ensures wave_planes_2 { WavePlanes w h ahead.now to.new left.new got.new ring.new }
-    ensures room_2 { Room w h ahead.now to.new }
+    ensures planes { WavePlanes w h ahead.now to.new left.new got.new ring.new }
+    ensures room { Room w h ahead.now to.new }
     ensures waving { Waving w h v from.now to.new left.old left.new got.old got.new ring.old ring.new }
     ensures still { result ≡ 0 → Still to.new left.new }
 {
@@ -74,14 +74,14 @@ pub fn waves(
     least: usize,
     ones: &[u16],
 ) -> usize
-    requires wave_planes { WavePlanes w h ahead.now front.old left.old got.old ring.old }
+    requires planes { WavePlanes w h ahead.now front.old left.old got.old ring.old }
     requires room { Room w h ahead.now front.old × Room w h ahead.now next.old }
-    requires k_nonzero { (0 < k) × (k ≤ t) × (t < 65536) × Ones ones.now }
-    ensures wave_planes_2 { WavePlanes w h ahead.now front.new left.new got.new ring.new }
-    ensures room_2 { Room w h ahead.now front.new × Room w h ahead.now next.new }
-    ensures waves_made { WavesMade w h k t result front.old front.new left.old left.new got.old got.new ring.old
+    requires steps { (0 < k) × (k ≤ t) × (t < 65536) × Ones ones.now }
+    ensures planes { WavePlanes w h ahead.now front.new left.new got.new ring.new }
+    ensures room { Room w h ahead.now front.new × Room w h ahead.now next.new }
+    ensures made { WavesMade w h k t result front.old front.new left.old left.new got.old got.new ring.old
         ring.new }
-    ensures upper_bound { result ≤ t }
+    ensures most { result ≤ t }
 {
     let mut n = k;
     while n + 1 < t {

@@ -1,0 +1,7 @@
+use mathlib.Core.Path.{◌∙◌}
+use Rattle.planes.specs.PlaneLaws.{row_words}
+use borrow.Author.Rules.{rules}
+use Rattle.planes.proofs.rows.row.Goals as goal
+
+pub returns : goal.returns
+returns c = λ c'. c.get.ensures c' ∙ row_words _ _ c'
