@@ -1,0 +1,5 @@
+use borrow.Author.Rules.{rules}
+use Rattle.waves.proofs.rows.number_row.Goals as goal
+
+pub number_many-requires : goal.number_many-requires
+number_many-requires c = (c.many.ensures c.if-many.true, c.requires.2)

@@ -1,0 +1,14 @@
+use mathlib.Core.Path.{◌≡◌, refl, ◌∙◌}
+use Prim.Native.Nat.{◌+◌, ◌-◌, ◌≤◌}
+use lib.ListN.{length}
+use Rattle.words.specs.Words.{word_bit, column}
+use Rattle.waves.specs.Rows.{Upto}
+use Rattle.waves.specs.RowLaws.{copy_start, copy_more, copy_all}
+use native.Mathlib.Omega.{arith}
+use Rattle.waves.proofs.waves.copy.Given as goal
+
+abbrev pub invariant-loop-y : goal.invariant-loop-y
+invariant-loop-y l = (l.y ≤ l.h) × (length l.to ≡ length l.initial.to) × Upto l.y (word_bit l.p) l.initial.to l.to
+
+abbrev pub decreases-loop-y : goal.decreases-loop-y
+decreases-loop-y l = l.h - l.y
