@@ -45,7 +45,7 @@ fn row(ring: &mut [u16], at: usize, w: usize, x: Row)
 // All rings, where got has the pixels with one.
 fn rows(ring: &mut [u16], got: &[u64], ahead: &[usize], w: usize, h: usize)
     requires sizes { Sizes w h × Aheads h ahead.now × Room w h ahead.now got.now × (length ring.old ≡ h * w) }
-    requires by_index { (p : ℕ) → p < h * w → seen w got.now p ≡ ltb 0 (get_or ring.old p 0) }
+    requires rings_seen { (p : ℕ) → p < h * w → seen w got.now p ≡ ltb 0 (get_or ring.old p 0) }
     ensures { (p : ℕ) → p < h * w → get_or ring.new p 0 ≡ 0 }
 {
     let mut y = ahead[0];
@@ -58,7 +58,7 @@ fn rows(ring: &mut [u16], got: &[u64], ahead: &[usize], w: usize, h: usize)
 // Unless they are wanted, and then they stay.
 pub fn unless(wanted: bool, ring: &mut [u16], got: &[u64], ahead: &[usize], w: usize, h: usize)
     requires sizes { Sizes w h × Aheads h ahead.now × Room w h ahead.now got.now × (length ring.old ≡ h * w) }
-    requires by_index { (p : ℕ) → p < h * w → seen w got.now p ≡ ltb 0 (get_or ring.old p 0) }
+    requires rings_seen { (p : ℕ) → p < h * w → seen w got.now p ≡ ltb 0 (get_or ring.old p 0) }
     ensures { (wanted ≡ true → ring.new ≡ ring.old) × (wanted ≡ false → (p : ℕ) → p < h * w → get_or ring.new p 0 ≡ 0) }
 {
     if !wanted {

@@ -45,7 +45,7 @@ fn begin(wanted: bool, ring: &mut [u16])
 fn support(up: &[u8], low: &[u8], above: &[u8], out: &mut [u8]) -> bool
     requires { (length up.now ≡ length out.old) × (length low.now ≡ length out.old) × (length above.now ≡ length out.old) }
     ensures bits { Bits (length out.old) (λ j. (bit_of up.now j || bit_of above.now j) && not (bit_of low.now j)) out.new }
-    ensures j_value { result ≡ false → (j : ℕ) → j < length low.now * 8 → but_not (bit_of up.now j) (bit_of low.now j) ≡ false }
+    ensures none { result ≡ false → (j : ℕ) → j < length low.now * 8 → but_not (bit_of up.now j) (bit_of low.now j) ≡ false }
 {
     let mut all: u8 = 0;
     let mut i = 0;
@@ -81,9 +81,9 @@ fn hanging(
     requires sizes { Sizes w h × (n ≡ row_bytes w) × (q.0 ≤ most_bound) × Halves q.0 half.now × Ones ones.now }
     requires clean { Clean w h low.now × Clean w h up.now × (length out.old ≡ h * row_bytes w) × (length ring.old ≡ h * w) × ((p : ℕ) → p < h * w → get_or ring.old p 0 ≡ 0) }
     requires spare { Spare w h left.old got.old front.old next.old seed.old lower.old ahead.old }
-    ensures ring_after { (wanted ≡ true → ring.new ≡ pair_rings w h q.0 (packed w low.now) (packed w up.now)) × (wanted ≡ false → (p : ℕ) → p < h * w → get_or ring.new p 0 ≡ 0) }
+    ensures rings { (wanted ≡ true → ring.new ≡ pair_rings w h q.0 (packed w low.now) (packed w up.now)) × (wanted ≡ false → (p : ℕ) → p < h * w → get_or ring.new p 0 ≡ 0) }
     ensures excused { Excused w h (pair_rings w h q.0 (packed w low.now) (packed w up.now)) out.old out.new }
-    ensures spare_2 { Spare w h left.new got.new front.new next.new seed.new lower.new ahead.new }
+    ensures spare { Spare w h left.new got.new front.new next.new seed.new lower.new ahead.new }
 {
     crate::rows::find(low, up, left, seed, ahead, w, h, n);
     rings::rings(
@@ -120,12 +120,12 @@ pub fn layer(
 )
     requires sizes { Sizes w h × (n ≡ row_bytes w) × (q.0 ≤ most_bound) × Halves q.0 half.now × Ones ones.now }
     requires clean { Clean w h low.now × Clean w h up.now × Clean w h above.now × (length out.old ≡ h * row_bytes w) × (length ring.old ≡ h * w) }
-    requires by_index { (p : ℕ) → p < h * w → packed w above.now p ≡ true → packed w up.now p ≡ true → ⊥ }
+    requires apart { (p : ℕ) → p < h * w → packed w above.now p ≡ true → packed w up.now p ≡ true → ⊥ }
     requires spare { Spare w h left.old got.old front.old next.old seed.old lower.old ahead.old }
-    requires p_value { wanted ≡ false → (p : ℕ) → p < h * w → get_or ring.old p 0 ≡ 0 }
-    ensures ring_after { (wanted ≡ true → ring.new ≡ pair_rings w h q.0 (packed w low.now) (packed w up.now)) × (wanted ≡ false → (p : ℕ) → p < h * w → get_or ring.new p 0 ≡ 0) }
+    requires unasked { wanted ≡ false → (p : ℕ) → p < h * w → get_or ring.old p 0 ≡ 0 }
+    ensures rings { (wanted ≡ true → ring.new ≡ pair_rings w h q.0 (packed w low.now) (packed w up.now)) × (wanted ≡ false → (p : ℕ) → p < h * w → get_or ring.new p 0 ≡ 0) }
     ensures packs { Packs w h (pair_support w h q.0 (packed w low.now) (packed w up.now) (packed w above.now)) out.new }
-    ensures spare_2 { Spare w h left.new got.new front.new next.new seed.new lower.new ahead.new }
+    ensures spare { Spare w h left.new got.new front.new next.new seed.new lower.new ahead.new }
 {
     begin(wanted, ring);
     if !support(up, low, above, out) {

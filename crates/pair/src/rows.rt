@@ -48,8 +48,8 @@ pub fn find(
     requires sizes { Sizes w h × (n ≡ row_bytes w) × Clean w h low.now × Clean w h up.now }
     requires empty { Empty left.old × Ready w h seed.old × (length ahead.old ≡ 257) }
     ensures aheads { Aheads h ahead.new × Room w h ahead.new left.new }
-    ensures drawn { Drawn w h (shadow (packed w low.now) (packed w up.now)) left.new }
-    ensures drawn_2 { Drawn w h (seeds (packed w low.now) (packed w up.now)) seed.new }
+    ensures shadow_drawn { Drawn w h (shadow (packed w low.now) (packed w up.now)) left.new }
+    ensures seeds_drawn { Drawn w h (seeds (packed w low.now) (packed w up.now)) seed.new }
 {
     ahead[h] = h;
     let mut last = h;

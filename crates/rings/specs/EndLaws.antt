@@ -39,11 +39,11 @@ module _ (w h k : ℕ) (over seed : Plane) (p : ℕ) (lp : p < h * w) (a : 0 < g
       go (suc j) e = joined_free (h * w) (touch w) over seed (path (h * w) (touch w) over seed j p lp (born (h * w) (touch w) over seed k p j lp e))
 
   ring_near : (q : ℕ) (low : Plane) → NearBy w h q k low over seed → near w h q low p ≡ true
-  ring_near q low Near-by = go (get_or (grown (h * w) (touch w) over seed k) p 0) refl
+  ring_near q low near_by = go (get_or (grown (h * w) (touch w) over seed k) p 0) refl
     where
       go : (r : ℕ) → get_or (grown (h * w) (touch w) over seed k) p 0 ≡ r → near w h q low p ≡ true
       go zero e = absurd (omega arith)
-      go (suc j) e = Near-by (suc j) p lp (omega (arith, bounded (h * w) (touch w) over seed k p lp)) (path (h * w) (touch w) over seed j p lp (born (h * w) (touch w) over seed k p j lp e))
+      go (suc j) e = near_by (suc j) p lp (omega (arith, bounded (h * w) (touch w) over seed k p lp)) (path (h * w) (touch w) over seed j p lp (born (h * w) (touch w) over seed k p j lp e))
 
 -- the waves that are in were waves over the near pixels, once the far ones are dropped from what is left
 pub near_waved : (w h q k : ℕ) (low over seed : Plane) (front left left' got ring : List ℕ) → NearWaves w h q k low over seed front left got ring
@@ -52,7 +52,7 @@ unfolding near_in
 near_waved w h q k low over seed front left left' got ring D near-left = record {
   rings = D.waved.rings
       ∙ grown_within (h * w) (touch w) over (near_in w h q low over) seed (λ p lp a. and_l (over p) _ a) k
-      (λ p lp a. and_in (over p) _ (ring_over w h k over seed p lp a) (ring_near w h k over seed p lp a q low D.Near-by)) k (omega arith);
+      (λ p lp a. and_in (over p) _ (ring_over w h k over seed p lp a) (ring_near w h k over seed p lp a q low D.near_by)) k (omega arith);
   fronts = D.waved.fronts;
   lefts = λ p lp. near-left p lp ∙ ap (λ (b : Bool). b && near w h q low p) (D.waved.lefts p lp) ∙ turn (over p) (eqb (get_or ring p 0) 0) (near w h q low p);
   gots = D.waved.gots;
@@ -89,7 +89,7 @@ landed_whole w h q k low over seed front left got ring z D s = record {
   rings = closed_still w h k (near_in w h q low over) seed front left ring z D.some_wave (λ p lp a b. D.apart p lp (and_l (over p) _ a) b)
       (D.waved.rings
       ∙ grown_within (h * w) (touch w) over (near_in w h q low over) seed (λ p lp a. and_l (over p) _ a) k
-      (λ p lp a. and_in (over p) _ (ring_over w h k over seed p lp a) (ring_near w h k over seed p lp a q low D.Near-by)) k (omega arith))
+      (λ p lp a. and_in (over p) _ (ring_over w h k over seed p lp a) (ring_near w h k over seed p lp a q low D.near_by)) k (omega arith))
       D.waved.fronts (λ p lp a e. D.waved.lefts p lp ∙ and_in (over p) _ (and_l (over p) _ a) (eq-eqb (get_or ring p 0) 0 e)) s;
   gots = D.waved.gots;
 }

@@ -26,10 +26,10 @@ fn finish(
     w: usize,
     h: usize,
 )
-    requires wave_planes { WavePlanes w h ahead.now front.now left.now got.old ring.old }
+    requires planes { WavePlanes w h ahead.now front.now left.now got.old ring.old }
     requires room { Room w h ahead.now marks.old }
-    ensures room_2 { Room w h ahead.now marks.new × Room w h ahead.now got.new }
-    ensures by_index { (k : ℕ) → (over seed : ℕ → Bool) → 0 < k → Apart w h over seed → Waved w h k over seed front.now left.now got.old ring.old →
+    ensures room { Room w h ahead.now marks.new × Room w h ahead.now got.new }
+    ensures whole { (k : ℕ) → (over seed : ℕ → Bool) → 0 < k → Apart w h over seed → Waved w h k over seed front.now left.now got.old ring.old →
         Whole w h over seed got.new ring.new }
 {
     sweeps::sweeps::settle(ring, front, marks, got, left, w, h);
@@ -53,11 +53,11 @@ fn farther(
     half: &[usize],
     ones: &[u16],
 )
-    requires wave_planes { WavePlanes w h ahead.now front.old left.old got.old ring.old }
+    requires planes { WavePlanes w h ahead.now front.old left.old got.old ring.old }
     requires rooms { Rooms w h ahead.now left.old got.old front.old next.old lower.old }
-    requires n_value { (n ≡ row_bytes w) × Clean w h low.now × (q.0 ≤ most_bound) × (0 < k) × (k < 65536) × Halves q.0 half.now × Ones ones.now }
-    ensures rooms_2 { Rooms w h ahead.now left.new got.new front.new next.new lower.new }
-    ensures by_index { (over seed : ℕ → Bool) → NearWaves w h q.0 k (packed w low.now) over seed front.old left.old got.old ring.old
+    requires sizes { (n ≡ row_bytes w) × Clean w h low.now × (q.0 ≤ most_bound) × (0 < k) × (k < 65536) × Halves q.0 half.now × Ones ones.now }
+    ensures rooms { Rooms w h ahead.now left.new got.new front.new next.new lower.new }
+    ensures whole { (over seed : ℕ → Bool) → NearWaves w h q.0 k (packed w low.now) over seed front.old left.old got.old ring.old
         → Whole w h (near_in w h q.0 (packed w low.now) over) seed got.new ring.new }
 {
     crate::far::read_plane(low, lower, w, h, n);
@@ -88,11 +88,11 @@ fn waves_first(
     half: &[usize],
     ones: &[u16],
 )
-    requires wave_planes { WavePlanes w h ahead.now seed.now left.old got.old ring.old }
+    requires planes { WavePlanes w h ahead.now seed.now left.old got.old ring.old }
     requires rooms { Rooms w h ahead.now left.old got.old front.old next.old lower.old }
-    requires n_value { (n ≡ row_bytes w) × Clean w h low.now × (q.0 ≤ most_bound) × (0 < t) × (t ≤ 32) × Halves q.0 half.now × Ones ones.now }
-    ensures rooms_2 { Rooms w h ahead.now left.new got.new front.new next.new lower.new }
-    ensures by_index { (shadow seeds : ℕ → Bool) → Waved w h 0 shadow seeds seed.now left.old got.old ring.old → Apart w h shadow seeds
+    requires sizes { (n ≡ row_bytes w) × Clean w h low.now × (q.0 ≤ most_bound) × (0 < t) × (t ≤ 32) × Halves q.0 half.now × Ones ones.now }
+    ensures rooms { Rooms w h ahead.now left.new got.new front.new next.new lower.new }
+    ensures whole { (shadow seeds : ℕ → Bool) → Waved w h 0 shadow seeds seed.now left.old got.old ring.old → Apart w h shadow seeds
         → NearBy w h q.0 t (packed w low.now) shadow seeds → Whole w h (near_in w h q.0 (packed w low.now) shadow) seeds got.new ring.new }
 {
     let a = waves::waves::wave(ring, seed, front, left, got, ahead, w, h, 1, ones);
@@ -127,11 +127,11 @@ pub fn rings(
     half: &[usize],
     ones: &[u16],
 )
-    requires wave_planes { WavePlanes w h ahead.now seed.now left.old got.old ring.old }
+    requires planes { WavePlanes w h ahead.now seed.now left.old got.old ring.old }
     requires rooms { Rooms w h ahead.now left.old got.old front.old next.old lower.old }
-    requires n_value { (n ≡ row_bytes w) × Clean w h low.now × (q.0 ≤ most_bound) × Halves q.0 half.now × Ones ones.now }
-    ensures rooms_2 { Rooms w h ahead.now left.new got.new front.new next.new lower.new }
-    ensures by_index { (shadow seeds : ℕ → Bool) → Waved w h 0 shadow seeds seed.now left.old got.old ring.old → Apart w h shadow seeds
+    requires sizes { (n ≡ row_bytes w) × Clean w h low.now × (q.0 ≤ most_bound) × Halves q.0 half.now × Ones ones.now }
+    ensures rooms { Rooms w h ahead.now left.new got.new front.new next.new lower.new }
+    ensures whole { (shadow seeds : ℕ → Bool) → Waved w h 0 shadow seeds seed.now left.old got.old ring.old → Apart w h shadow seeds
         → ((p : ℕ) → p < h * w → seeds p ≡ true → packed w low.now p ≡ true) →
         Whole w h (near_in w h q.0 (packed w low.now) shadow) seeds got.new ring.new }
 {
