@@ -1,0 +1,17 @@
+use mathlib.Core.Path.{◌≡◌, refl, ◌∙◌}
+use mathlib.Core.Bool.{false}
+use Prim.Native.Nat.{◌+◌, ◌-◌, ◌≤◌}
+use lib.ListN.{length}
+use Rattle.words.specs.Words.{column}
+use Rattle.waves.specs.Rows.{Upto}
+use Rattle.pair.specs.FoundLaws.{empty_start, empty_more, empty_all}
+use native.Mathlib.Omega.{arith}
+use borrow.Author.Rules.{rules}
+use Rattle.pair.proofs.rows.empty.Given as goal
+
+abbrev pub invariant-loop-y : goal.invariant-loop-y
+invariant-loop-y l = (l.y ≤ l.h) × (length l.a ≡ length l.initial.a) × (length l.b ≡ length l.initial.b) × (length l.c ≡ length l.initial.c) × (length l.d ≡ length l.initial.d) × Upto l.y (λ j. false) l.initial.a l.a
+    × Upto l.y (λ j. false) l.initial.b l.b × Upto l.y (λ j. false) l.initial.c l.c × Upto l.y (λ j. false) l.initial.d l.d
+
+abbrev pub decreases-loop-y : goal.decreases-loop-y
+decreases-loop-y l = l.h - l.y
