@@ -48,7 +48,7 @@ pub fn close(
     half: &[usize],
 )
     requires sizes { Sizes w h × (n ≡ row_bytes w) × Clean w h s.now × (length out.old ≡ h * row_bytes w) × Ready w h a.old × Ready w h b.old }
-    requires c_le_most_gap { (c.0 ≤ most_gap) × Halves (c.0 * c.0) half.now × ((j : ℕ) → column all j ≡ ltb j w) }
+    requires disc { (c.0 ≤ most_gap) × Halves (c.0 * c.0) half.now × ((j : ℕ) → column all j ≡ ltb j w) }
     ensures { Packs w h (closed w h (c.0 * c.0) (packed w s.now)) out.new × Ready w h a.new × Ready w h b.new }
 {
     rings::far::read_plane(s, a, w, h, n);

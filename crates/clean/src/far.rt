@@ -69,7 +69,7 @@ fn begin(from: &[u64], c: Pixels, all: Row) -> Till
 // is looked at before a row is worked on.
 pub fn far(from: &[u64], to: &mut [u64], w: usize, h: usize, c: Pixels, all: Row, half: &[usize])
     requires sizes { Sizes w h × Ready w h from.now × Ready w h to.old × (c.0 ≤ most_gap) × Halves (c.0 * c.0) half.now }
-    requires by_index { (j : ℕ) → column all j ≡ ltb j w }
+    requires row_whole { (j : ℕ) → column all j ≡ ltb j w }
     ensures { Drawn w h (λ p. not (near w h (c.0 * c.0) (seen w from.now) p)) to.new }
 {
     let mut t = begin(from, c, all);

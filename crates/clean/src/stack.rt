@@ -18,8 +18,8 @@ use words::Row;
 // Compares the `size` bytes from `at` on with those behind them, and with 0.
 fn compare(s: &[u8], at: usize, size: usize) -> Compared
     requires { at + size + size ≤ length s.now }
-    ensures j_value { result.same ≡ true → (j : ℕ) → j < size * 8 → bit_of s.now (at * 8 + j) ≡ bit_of s.now ((at + size) * 8 + j) }
-    ensures j_value_2 { result.empty ≡ true → (j : ℕ) → j < size * 8 → bit_of s.now (at * 8 + j) ≡ false }
+    ensures same { result.same ≡ true → (j : ℕ) → j < size * 8 → bit_of s.now (at * 8 + j) ≡ bit_of s.now ((at + size) * 8 + j) }
+    ensures empty { result.empty ≡ true → (j : ℕ) → j < size * 8 → bit_of s.now (at * 8 + j) ≡ false }
 {
     let mut other: u8 = 0;
     let mut all: u8 = 0;
@@ -68,7 +68,7 @@ fn widen(
     half: &[usize],
 )
     requires sized { Sized w h rb × (suc i < n) × (c.0 ≤ most_gap) × Halves (c.0 * c.0) half.now × ((j : ℕ) → column all j ≡ ltb j w) }
-    requires support_len { (length support.now ≡ n * h * row_bytes w) × (padding_set w (n * h) support.now ≡ false) × Ready w h a.old × Ready w h b.old }
+    requires lent { (length support.now ≡ n * h * row_bytes w) × (padding_set w (n * h) support.now ≡ false) × Ready w h a.old × Ready w h b.old }
     requires packs { Packs w h (closed w h (c.0 * c.0) (pixel w h support.now (suc i))) wide.old }
     ensures { Packs w h (closed w h (c.0 * c.0) (pixel w h support.now i)) wide.new × Ready w h a.new × Ready w h b.new }
 {

@@ -57,8 +57,8 @@ fn layer_at(
     requires buffers { Buffers keep w h n part.now support.old rings.old }
     requires down { Down keep w h n q.0 (i + 1) part.now support.old rings.old above.old }
     requires spare { Spare w h left.old got.old front.old next.old seed.old lower.old ahead.old }
-    ensures down_2 { Down keep w h n q.0 i part.now support.new rings.new above.new }
-    ensures spare_2 { Spare w h left.new got.new front.new next.new seed.new lower.new ahead.new }
+    ensures down { Down keep w h n q.0 i part.now support.new rings.new above.new }
+    ensures spare { Spare w h left.new got.new front.new next.new seed.new lower.new ahead.new }
 {
     let size = h * rb;
     let area = h * w;
@@ -116,8 +116,8 @@ fn layers(
     requires buffers { Buffers keep w h n part.now support.old rings.old }
     requires down { Down keep w h n q.0 (n - 1) part.now support.old rings.old above.old }
     requires spare { Spare w h left.old got.old front.old next.old seed.old lower.old ahead.old }
-    ensures support_after { support.new ≡ planned_bytes w h n (λ k. q.0) part.now }
-    ensures rings_after { (keep ≡ true → rings.new ≡ planned_rings w h n (λ k. q.0) part.now) × (keep ≡ false → (p : ℕ) → p < h * w → get_or rings.new p 0 ≡ 0) }
+    ensures support_planned { support.new ≡ planned_bytes w h n (λ k. q.0) part.now }
+    ensures rings_planned { (keep ≡ true → rings.new ≡ planned_rings w h n (λ k. q.0) part.now) × (keep ≡ false → (p : ℕ) → p < h * w → get_or rings.new p 0 ≡ 0) }
 {
     let mut i = n - 1;
     while 0 < i {
@@ -132,7 +132,7 @@ fn layers(
 // The top layer has no support.
 pub fn top(support: &mut [u8], above: &[u8], w: usize, h: usize, n: usize, rb: usize)
     requires sized { Sized w h rb × (0 < n) }
-    requires support_len { (length support.old ≡ n * h * row_bytes w) × Packs w h (λ p. false) above.now }
+    requires lent { (length support.old ≡ n * h * row_bytes w) × Packs w h (λ p. false) above.now }
     ensures { (plane (h * row_bytes w) (n - 1) support.new ≡ above.now) × OnlyPlane (h * row_bytes w) (n - 1) support.new support.old }
 {
     let size = h * rb;
@@ -155,8 +155,8 @@ pub fn stack(
 )
     requires sized { Sized w h rb × (q.0 ≤ most_bound) × (0 < n) }
     requires buffers { Buffers keep w h n part.now support.old rings.old }
-    ensures support_after { support.new ≡ planned_bytes w h n (λ k. q.0) part.now }
-    ensures rings_after { (keep ≡ true → rings.new ≡ planned_rings w h n (λ k. q.0) part.now) × (keep ≡ false → (p : ℕ) → p < h * w → get_or rings.new p 0 ≡ 0) }
+    ensures support_planned { support.new ≡ planned_bytes w h n (λ k. q.0) part.now }
+    ensures rings_planned { (keep ≡ true → rings.new ≡ planned_rings w h n (λ k. q.0) part.now) × (keep ≡ false → (p : ℕ) → p < h * w → get_or rings.new p 0 ≡ 0) }
 {
     let size = h * rb;
     let mut above = [0u8; 8192];
