@@ -83,10 +83,10 @@ fn thin(
 )
     requires sized { Sized w h n × (r.0 ≤ most_bound) × Halves r.0 wide.now }
     requires clean { Clean w h low.now × Clean w h up.now × Clean w h above.now × Clean w h out.old }
-    requires by_index { (p : ℕ) → p < h * w → packed w above.now p ≡ true → packed w up.now p ≡ true → ⊥ }
+    requires apart { (p : ℕ) → p < h * w → packed w above.now p ≡ true → packed w up.now p ≡ true → ⊥ }
     requires scratch { Scratch w h two.old held.old ring.old got.old plane.old }
     ensures packs { Packs w h (plane_of (posts_below w h r.0 (λ p. packed w out.old p && packed w up.now p) (gone_down (packed w low.now) (packed w above.now)))) out.new }
-    ensures scratch_2 { Scratch w h two.new held.new ring.new got.new plane.new }
+    ensures scratch { Scratch w h two.new held.new ring.new got.new plane.new }
 {
     let size = h * n;
     join(out, up, above, low, &mut two[size..size + size]);
@@ -117,11 +117,11 @@ pub fn layer(
 )
     requires sized { Sized w h n × (r.0 ≤ most_bound) × Halves r.0 wide.now }
     requires clean { Clean w h low.now × Clean w h up.now × Clean w h above.now × Clean w h out.old }
-    requires by_index { (p : ℕ) → p < h * w → packed w above.now p ≡ true → packed w up.now p ≡ true → ⊥ }
-    requires by_index_2 { (p : ℕ) → p < h * w → gone_down (packed w low.now) (packed w above.now) p ≡ true → packed w out.old p ≡ true }
+    requires apart { (p : ℕ) → p < h * w → packed w above.now p ≡ true → packed w up.now p ≡ true → ⊥ }
+    requires gone_down_in { (p : ℕ) → p < h * w → gone_down (packed w low.now) (packed w above.now) p ≡ true → packed w out.old p ≡ true }
     requires scratch { Scratch w h two.old held.old ring.old got.old plane.old }
     ensures packs { Packs w h (plane_of (posts_below w h r.0 (λ p. packed w out.old p && packed w up.now p) (gone_down (packed w low.now) (packed w above.now)))) out.new }
-    ensures scratch_2 { Scratch w h two.new held.new ring.new got.new plane.new }
+    ensures scratch { Scratch w h two.new held.new ring.new got.new plane.new }
 {
     if !any(out) {
         return;

@@ -34,11 +34,11 @@ fn scan_row(
     q: Bound,
     half: &[usize],
 )
-    requires scan_planes { ScanPlanes w h n rest.old got.old out.old × (y < h) × (q.0 ≤ most_bound) × Halves q.0 half.now }
-    requires by_index { (p : ℕ) → p < y * w → seen w rest.old p ≡ false }
-    ensures scan_planes_2 { ScanPlanes w h n rest.new got.new out.new }
+    requires planes { ScanPlanes w h n rest.old got.old out.old × (y < h) × (q.0 ≤ most_bound) × Halves q.0 half.now }
+    requires done { (p : ℕ) → p < y * w → seen w rest.old p ≡ false }
+    ensures planes { ScanPlanes w h n rest.new got.new out.new }
     ensures scanning { Scanning w h q.0 rest.old out.old rest.new out.new }
-    ensures by_index_2 { (p : ℕ) → p < y * w + w → seen w rest.new p ≡ false }
+    ensures done { (p : ℕ) → p < y * w + w → seen w rest.new p ≡ false }
 {
     let at = y * n;
     let i = (y + 33) * 5;
@@ -67,7 +67,7 @@ pub fn scan(
     half: &[usize],
 )
     requires sizes { Sizes w h × (n ≡ row_bytes w) × Ready w h rest.old × Empty got.old × Clean w h out.old }
-    requires q_le_most_bound { (q.0 ≤ most_bound) × Halves q.0 half.now }
+    requires disc { (q.0 ≤ most_bound) × Halves q.0 half.now }
     ensures packs { Packs w h (λ p. packed w out.old p || listed (scanned w h q.0 (h * w) (each 0 (h * w) (seen w rest.old))) p) out.new }
     ensures ready { Ready w h rest.new × Empty got.new }
 {

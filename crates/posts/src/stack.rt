@@ -32,8 +32,8 @@ fn layer_at(
     requires lent { Lent w h n part.now posts.old }
     requires down { Down w h n q.0 r.0 (i + 1) part.now posts.old above.old }
     requires scratch { Scratch w h two.old held.old ring.old got.old plane.old }
-    ensures down_2 { Down w h n q.0 r.0 i part.now posts.new above.new }
-    ensures scratch_2 { Scratch w h two.new held.new ring.new got.new plane.new }
+    ensures down { Down w h n q.0 r.0 i part.now posts.new above.new }
+    ensures scratch { Scratch w h two.new held.new ring.new got.new plane.new }
 {
     let size = h * rb;
     let a = i * size;
@@ -104,7 +104,7 @@ fn thinned(
 )
     requires sized { Sized w h rb × (r.0 ≤ most_bound) × (0 < n) }
     requires lent { Lent w h n part.now posts.old × (length ring.old ≡ h * w) × ((p : ℕ) → p < h * w → get_or ring.old p 0 ≡ 0) }
-    requires posts_value { posts.old ≡ planned_bytes w h n (λ k. q.0) part.now }
+    requires planned { posts.old ≡ planned_bytes w h n (λ k. q.0) part.now }
     ensures { posts.new ≡ posts_bytes w h n (λ k. q.0) r.0 part.now }
 {
     let size = h * rb;

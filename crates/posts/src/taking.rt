@@ -84,8 +84,8 @@ fn fresh(got: &[u64], i: usize, free: Row) -> Row
 // The columns s of the two words from word i on are got, and remain no longer.
 fn get(rest: &mut [u64], got: &mut [u64], i: usize, s: Row)
     requires { (i + 2 ≤ length rest.old) × (i + 2 ≤ length got.old) }
-    ensures within { Within (i * 64) (i * 64 + 128) (λ j. word_bit rest.old j && not (column s (j - i * 64))) (word_bit rest.old) (word_bit rest.new) }
-    ensures within_2 { Within (i * 64) (i * 64 + 128) (λ j. word_bit got.old j || column s (j - i * 64)) (word_bit got.old) (word_bit got.new) }
+    ensures rest_within { Within (i * 64) (i * 64 + 128) (λ j. word_bit rest.old j && not (column s (j - i * 64))) (word_bit rest.old) (word_bit rest.new) }
+    ensures got_within { Within (i * 64) (i * 64 + 128) (λ j. word_bit got.old j || column s (j - i * 64)) (word_bit got.old) (word_bit got.new) }
 {
     put_two(rest, i, words::rows::but_not(two(rest, i), s));
     put_two(got, i, words::rows::either(two(got, i), s));
@@ -181,9 +181,9 @@ pub fn take(
     half: &[usize],
 )
     requires sizes { Sizes w h × Ready w h rest.old × Empty got.old × (y < h) × (c < w) × (q.0 ≤ most_bound) × Halves q.0 half.now }
-    requires c_value { (word_bit rest.old (spot y c) ≡ true) × ((p : ℕ) → p < y * w + c → seen w rest.old p ≡ false) }
+    requires first { (word_bit rest.old (spot y c) ≡ true) × ((p : ℕ) → p < y * w + c → seen w rest.old p ≡ false) }
     ensures ready { Ready w h rest.new × Empty got.new }
-    ensures by_index { (p : ℕ) → p < h * w → seen w rest.new p ≡ plane_of (spared w h q.0 (seen w rest.old) (eqb (y * w + c))) p }
+    ensures spared { (p : ℕ) → p < h * w → seen w rest.new p ≡ plane_of (spared w h q.0 (seen w rest.old) (eqb (y * w + c))) p }
 {
     let i = (y + 33) * 5 + c / 64;
     sweeps::marks::clear_bit(rest, i, c % 64);
