@@ -1,0 +1,15 @@
+use mathlib.Core.Path.{◌≡◌}
+use mathlib.Core.Bool.{not, ◌&&◌, ◌||◌}
+use Prim.Native.Nat.{◌≤◌, ◌-◌}
+use lib.ListN.{length}
+use Rattle.image.specs.Filling.{Filling, filling_none, filling_more, filling_all}
+use Rattle.image.specs.Scratch.{bit_of}
+use Rattle.posts.specs.LayerLaws.{join_byte}
+use native.Mathlib.Omega.{arith}
+use Rattle.posts.proofs.layer.join.Given as goal
+
+abbrev pub invariant-loop-i : goal.invariant-loop-i
+invariant-loop-i l = (l.i ≤ length l.initial.to) × Filling 0 l.i (λ j. (bit_of l.s j && bit_of l.up j) || (bit_of l.above j && not (bit_of l.low j))) l.to l.initial.to
+
+abbrev pub decreases-loop-i : goal.decreases-loop-i
+decreases-loop-i l = length l.initial.to - l.i

@@ -1,0 +1,7 @@
+use Rattle.posts.specs.ScanLaws.{pixel_set}
+use native.Mathlib.Omega.{arith}
+use borrow.Author.Rules.{rules}
+use Rattle.posts.proofs.scan.set_pixel.Goals as goal
+
+pub returns : goal.returns
+returns c = pixel_set _ _ _ (omega (arith, c.requires))
