@@ -102,8 +102,8 @@ pub fn row(
     requires fits { (Sized w h × (length rings.now ≡ h * w)) × ((r < h) × Ones ones.now) }
     requires rows { (length free.now ≡ 4) × ((length first.now ≡ 4) × ((length hang.now ≡ 4) × (length got.old ≡ 4))) }
     ensures good { result.rings ≡ true → (c : ℕ) → c < w → Good w h (word_bit free.now c) (word_bit first.now c) rings.now r c }
-    ensures nonzero { result.held ≡ true → (c : ℕ) → c < w → word_bit hang.now c ≡ true → 0 < get_or rings.now (r * w + c) 0 }
-    ensures c_bound { result.rings ≡ true → (c : ℕ) → c < w → (get_or rings.now (r * w + c) 0 ≤ result.most)
+    ensures held { result.held ≡ true → (c : ℕ) → c < w → word_bit hang.now c ≡ true → 0 < get_or rings.now (r * w + c) 0 }
+    ensures told { result.rings ≡ true → (c : ℕ) → c < w → (get_or rings.now (r * w + c) 0 ≤ result.most)
         × (0 < get_or rings.now (r * w + c) 0 → word_bit got.new c ≡ true) }
 {
     let mut bare: u64 = 0;
