@@ -137,7 +137,7 @@ fn near_all(
 ) -> Close
     requires fits { (Sized w h × (r < h)) × (Clean w h low.now × (Halves q.0 halves.now × (q.0 ≤ most_bound))) }
     requires scratch { Ready w h disc.old × (drawn ≡ true → Drawn w h (packed w low.now) disc.old) }
-    ensures c_value { result.good ≡ true → (c : ℕ) → c < w → column far c ≡ true → near w h q.0 (packed w low.now) (r * w + c) ≡ true }
+    ensures nearby { result.good ≡ true → (c : ℕ) → c < w → column far c ≡ true → near w h q.0 (packed w low.now) (r * w + c) ≡ true }
     ensures ready { Ready w h disc.new × (result.drawn ≡ true → Drawn w h (packed w low.now) disc.new) }
 {
     if !words::rows::any(far) {
@@ -248,8 +248,8 @@ pub fn pair(
 ) -> Sure
     requires fits { (Sized w h × ((2 * (t * t) ≤ q.0) × (q.0 ≤ most_bound))) × (Clean w h low.now × (length rings.now ≡ h * w)) }
     requires planes { Long (h * row_bytes w) low.now up.now below.now above.now × (Ones ones.now × Halves q.0 halves.now) }
-    ensures p_value { result.rings ≡ true → (p : ℕ) → p < h * w → bad_here w h q.0 (packed w low.now) (packed w up.now) (λ o. get_or rings.now o 0) p ≡ false }
-    ensures p_value_2 { result.held ≡ true → (p : ℕ) → p < h * w →
+    ensures good { result.rings ≡ true → (p : ℕ) → p < h * w → bad_here w h q.0 (packed w low.now) (packed w up.now) (λ o. get_or rings.now o 0) p ≡ false }
+    ensures held { result.held ≡ true → (p : ℕ) → p < h * w →
         unheld_here (packed w low.now) (packed w up.now) (packed w below.now) (packed w above.now) (λ o. get_or rings.now o 0) p ≡ false }
 {
     let seen = crate::looks::look(low, up, below, above, h * limits::row_bytes(w));

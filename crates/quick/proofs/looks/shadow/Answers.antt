@@ -3,13 +3,7 @@ use Rattle.rules.specs.Images.{bit_at}
 use mathlib.Core.Path.{ap, ◌∙◌}
 use mathlib.Core.Bool.{Bool, ◌&&◌}
 use borrow.Author.Rules.{rules}
-use Rattle.quick.proofs.looks.shadow.Statement.{statement}
-use Rattle.quick.proofs.looks.shadow.Tie as tie
+use Rattle.quick.proofs.looks.shadow.Goals as goal
 
-returns : tie.Need-returns
+pub returns : goal.returns
 returns c = λ k l. bit_and_lem c.args.up _ k ∙ ap (λ (b : Bool). bit_at c.args.up k && b) (bit_not c.args.low k (search rules) l)
-
-pub shadow-spec : {M : Type 1} → statement M
-shadow-spec =
-    tie.close
-    (tie.spec returns)
