@@ -6,6 +6,7 @@ ghost use Rattle.std.specs.Prelude.{◌≡◌, ◌≤◌, length};
 
 use rules::{CopiedRings, Micrometres, ReadJob, Refusal, Settings, WrittenJob};
 use shown::{say, show, show_refusal};
+use std::io;
 
 fn number(r: Refusal) -> u64 {
     match r {
@@ -22,65 +23,63 @@ fn read_number(r: ReadJob) -> u64 {
     }
 }
 
-fn show_copied(r: CopiedRings) {
+fn show_copied(rt: &impl Print, r: CopiedRings) -> io::Result<()> {
     match r {
-        CopiedRings::Copied => show(0),
-        CopiedRings::Refused(k) => show_refusal(k),
+        CopiedRings::Copied => show(rt, 0),
+        CopiedRings::Refused(k) => show_refusal(rt, k),
     }
 }
 
-fn show_read(file: &[u8]) {
+fn show_read(rt: &impl Print, file: &[u8]) -> io::Result<()> {
     match job::read(file) {
-        ReadJob::Job(_) => show(0),
-        ReadJob::Refused(k) => show_refusal(k),
+        ReadJob::Job(_) => show(rt, 0),
+        ReadJob::Refused(k) => show_refusal(rt, k),
     }
 }
 
 // How many cuts of a file are refused with 12.
 fn cuts(file: &[u8]) -> u64 {
-    let mut k = 0;
     let mut n = 0;
-    while k < file.len() {
+    for k in 0..file.len() {
         if read_number(job::read(&file[..k])) == 12 {
             n += 1;
         }
-        k += 1;
     }
     n
 }
 
 // Reads a file of 46 bytes whose count at `at` has the bytes `high` three times and `low`.
-fn show_count(file: &[u8], at: usize, high: u8, low: u8)
+fn show_count(rt: &impl Print, file: &[u8], at: usize, high: u8, low: u8) -> io::Result<()>
     requires { (at ≤ 42) × (length file.now ≡ 46) }
 {
     let mut changed = [0u8; 46];
-    bytes::copy(file, &mut changed);
+    changed.copy_from_slice(file);
     changed[at] = high;
     changed[at + 1] = high;
     changed[at + 2] = high;
     changed[at + 3] = low;
-    show_read(&changed);
+    show_read(rt, &changed)
 }
 
 // The count at `at` is one less, one more, and near 2^32.
-fn show_counts(file: &[u8], at: usize, less: u8, more: u8)
+fn show_counts(rt: &impl Print, file: &[u8], at: usize, less: u8, more: u8) -> io::Result<()>
     requires { (at ≤ 42) × (length file.now ≡ 46) }
 {
-    show_count(file, at, 0, less);
-    show_count(file, at, 0, more);
-    show_count(file, at, 255, 254);
-    show_count(file, at, 255, 255);
+    show_count(rt, file, at, 0, less)?;
+    show_count(rt, file, at, 0, more)?;
+    show_count(rt, file, at, 255, 254)?;
+    show_count(rt, file, at, 255, 255)
 }
 
 // Reads a file of 44 bytes, two layers of a row 7 pixels wide, with another row of part and of support in a layer.
-fn show_padding(file: &[u8], layer: usize, part: u8, support: u8)
+fn show_padding(rt: &impl Print, file: &[u8], layer: usize, part: u8, support: u8) -> io::Result<()>
     requires { (layer ≤ 1) × (length file.now ≡ 44) }
 {
     let mut changed = [0u8; 44];
-    bytes::copy(file, &mut changed);
+    changed.copy_from_slice(file);
     changed[18 + layer] = part;
     changed[24 + layer] = support;
-    show_read(&changed);
+    show_read(rt, &changed)
 }
 
 fn told(yes: bool) -> u64 {
@@ -91,12 +90,10 @@ fn same_rings(a: &[u16], b: &[u16]) -> bool {
     if a.len() != b.len() {
         return false;
     }
-    let mut i = 0;
-    while i < a.len() {
+    for i in 0..a.len() {
         if a[i] != b[i] {
             return false;
         }
-        i += 1;
     }
     true
 }
@@ -105,18 +102,14 @@ fn same_rings(a: &[u16], b: &[u16]) -> bool {
 fn fill(rows: &mut [u8], from: usize)
     requires { from ≤ 32 }
 {
-    let mut i = 0;
-    while i < rows.len() {
+    for i in 0..rows.len() {
         rows[i] = ((i % 32 + from) % 32 * 8) as u8;
-        i += 1;
     }
 }
 
 fn fill_rings(rings: &mut [u16]) {
-    let mut i = 0;
-    while i < rings.len() {
+    for i in 0..rings.len() {
         rings[i] = (i % 65536) as u16;
-        i += 1;
     }
 }
 
@@ -131,25 +124,39 @@ fn written(r: WrittenJob, room: usize) -> usize
 }
 
 // The numbers of reading a job and of copying its rings, and whether part, support and rings are what was written.
-fn show_back(file: &[u8], part: &[u8], support: &[u8], rings: &[u16], back: &mut [u16]) {
-    show_read(file);
-    show_copied(job::copy_rings(file, back));
-    show(told(check::same(job::part(file), part)));
-    show(told(check::same(job::support(file), support)));
-    show(told(same_rings(back, rings)));
+fn show_back(
+    rt: &impl Print,
+    file: &[u8],
+    part: &[u8],
+    support: &[u8],
+    rings: &[u16],
+    back: &mut [u16],
+) -> io::Result<()> {
+    show_read(rt, file)?;
+    show_copied(rt, job::copy_rings(file, back))?;
+    show(rt, told(job::part(file) == part))?;
+    show(rt, told(job::support(file) == support))?;
+    show(rt, told(same_rings(back, rings)))
 }
 
 // Whether a job that was read is written as the same bytes.
-fn show_again(s: Settings, file: &[u8], rings: &[u16], again: &mut [u8]) {
+fn show_again(
+    rt: &impl Print,
+    s: Settings,
+    file: &[u8],
+    rings: &[u16],
+    again: &mut [u8],
+) -> io::Result<()> {
     let n = written(
         job::write(s, job::part(file), job::support(file), rings, again),
         again.len(),
     );
-    show(told(check::same(file, &again[..n])));
+    show(rt, told(file == &again[..n]))
 }
 
 // Writes a job, reads it back and writes what was read.
 fn round(
+    rt: &impl Print,
     s: Settings,
     part: &[u8],
     support: &[u8],
@@ -157,15 +164,15 @@ fn round(
     back: &mut [u16],
     out: &mut [u8],
     again: &mut [u8],
-) {
+) -> io::Result<()> {
     let n = written(job::write(s, part, support, rings, out), out.len());
-    show(n as u64);
-    show_back(&out[..n], part, support, rings, back);
-    show_again(s, &out[..n], back, again);
+    show(rt, n as u64)?;
+    show_back(rt, &out[..n], part, support, rings, back)?;
+    show_again(rt, s, &out[..n], back, again)
 }
 
 // 181 by 5 pixels and 33 layers: 65,536 bytes with support and rings, the most that fit.
-fn longest() {
+fn longest(rt: &impl Print) -> io::Result<()> {
     let mut part = [0u8; 3795];
     let mut support = [0u8; 3795];
     let mut rings = [0u16; 28960];
@@ -182,45 +189,51 @@ fn longest() {
         pitch: Micrometres(100),
         overhang: Micrometres(200),
     };
-    round(s, &part, &support, &rings, &mut back, &mut out, &mut again);
+    round(
+        rt, s, &part, &support, &rings, &mut back, &mut out, &mut again,
+    )
 }
 
-fn main() {
+fn main(rt: HostRuntime) -> io::Result<()> {
     // piece b of docs/RULES.md, with its support and rings
     let piece =
         b"\x00\x00\x00\x05\x00\x08\x00\x01\x00\x02\x00\x64\x00\xC8\x00\x00\x00\x02\xE0\xFF\x00\x00\x00\x02\x07\x00\x00\x00\x00\x08\x00\x00\x00\x00\x00\x00\x00\x01\x00\x02\x00\x00\x00\x00\x00\x00";
-    say(b"whole");
-    show_read(piece);
-    say(b"\ncut");
-    show(cuts(piece));
-    say(b"\ncounts");
-    show_counts(piece, 0, 4, 6);
-    show_counts(piece, 14, 1, 3);
-    show_counts(piece, 20, 1, 3);
-    show_counts(piece, 26, 7, 9);
-    say(b"\nafter");
+    say(&rt, b"whole")?;
+    show_read(&rt, piece)?;
+    say(&rt, b"\ncut")?;
+    show(&rt, cuts(piece))?;
+    say(&rt, b"\ncounts")?;
+    show_counts(&rt, piece, 0, 4, 6)?;
+    show_counts(&rt, piece, 14, 1, 3)?;
+    show_counts(&rt, piece, 20, 1, 3)?;
+    show_counts(&rt, piece, 26, 7, 9)?;
+    say(&rt, b"\nafter")?;
     show_read(
+        &rt,
         b"\x00\x00\x00\x05\x00\x08\x00\x01\x00\x02\x00\x64\x00\xC8\x00\x00\x00\x02\xE0\xFF\x00\x00\x00\x00\x00\x00\x00\x00\x00",
-    );
-    say(b"\npadding");
+    )?;
+    say(&rt, b"\npadding")?;
     let narrow =
         b"\x00\x00\x00\x05\x00\x07\x00\x01\x00\x02\x00\x64\x00\xC8\x00\x00\x00\x02\xE0\xFE\x00\x00\x00\x02\x06\x00\x00\x00\x00\x07\x00\x00\x00\x00\x00\x00\x00\x01\x00\x02\x00\x00\x00\x00";
-    show_padding(narrow, 0, 224, 6);
-    show_padding(narrow, 0, 225, 6);
-    show_padding(narrow, 0, 224, 7);
-    show_padding(narrow, 1, 225, 7);
-    show_padding(narrow, 1, 254, 1);
-    say(b"\nsingle");
+    show_padding(&rt, narrow, 0, 224, 6)?;
+    show_padding(&rt, narrow, 0, 225, 6)?;
+    show_padding(&rt, narrow, 0, 224, 7)?;
+    show_padding(&rt, narrow, 1, 225, 7)?;
+    show_padding(&rt, narrow, 1, 254, 1)?;
+    say(&rt, b"\nsingle")?;
     show_read(
+        &rt,
         b"\x00\x00\x00\x05\x00\x08\x00\x01\x00\x01\x00\x64\x00\xC8\x00\x00\x00\x01\xFF\x00\x00\x00\x00\x00\x00\x00\x00",
-    );
+    )?;
     show_read(
+        &rt,
         b"\x00\x00\x00\x05\x00\x08\x00\x01\x00\x01\x00\x64\x00\xC8\x00\x00\x00\x01\xFF\x00\x00\x00\x01\x00\x00\x00\x00\x00",
-    );
+    )?;
     show_read(
+        &rt,
         b"\x00\x00\x00\x05\x00\x08\x00\x01\x00\x01\x00\x64\x00\xC8\x00\x00\x00\x01\xFF\x00\x00\x00\x01\x00\x00\x00\x00\x08",
-    );
-    say(b"\nlongest");
-    longest();
-    say(b"\n");
+    )?;
+    say(&rt, b"\nlongest")?;
+    longest(&rt)?;
+    say(&rt, b"\n")
 }
