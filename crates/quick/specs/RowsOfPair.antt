@@ -17,7 +17,7 @@ use Rattle.words.specs.WordLaws.{whole_row, first_word}
 use Rattle.places.specs.Planes.{in_plane}
 use Rattle.places.specs.Rows.{bytes_in}
 use Rattle.leans.specs.Leaning.{Good, Bare}
-use Rattle.quick.specs.Sureness.{Beside, SoundRing, seed_part, shadow_part, Long, Shadeless, Row-sound, Row-held}
+use Rattle.quick.specs.Sureness.{Beside, SoundRing, seed_part, shadow_part, Long, Shadeless, RowSound, RowHeld}
 
 -- a row's bytes lie in its plane
 pub row_room : (w h y rb len : ℕ) → y < h → rb ≡ row_bytes w → h * row_bytes w ≤ len → y * rb + rb ≤ len
@@ -65,7 +65,7 @@ module _ (w h rb r : ℕ) (er : rb ≡ row_bytes w) where
 
   -- a shadow pixel without support below hangs
   pub hung_held : (low up below rings : List ℕ) (sh be ha : ℕ → Bool) → ((c : ℕ) → sh c ≡ shadow_part low up (r * rb) rb c) → ((c : ℕ) → be c ≡ row_part below (r * rb) rb c) →
-      ((c : ℕ) → c < 256 → ha c ≡ (sh c && not (be c))) → w ≤ 256 → ((c : ℕ) → c < w → ha c ≡ true → 0 < get_or rings (r * w + c) 0) → Row-held w low up below rings r
+      ((c : ℕ) → c < 256 → ha c ≡ (sh c && not (be c))) → w ≤ 256 → ((c : ℕ) → c < w → ha c ≡ true → 0 < get_or rings (r * w + c) 0) → RowHeld w low up below rings r
   hung_held low up below rings sh be ha Sh Be Ha lw held c l s b =
       held c l (Ha c (omega arith) ∙ rw (Sh c, ← shadow_part_lem low up c l, s, Be c, ← packed_part below r c l, b))
 
@@ -115,7 +115,7 @@ module _ (w h rb r : ℕ) (er : rb ≡ row_bytes w) where
       -- a good ring is sound, and lies in `far` where it is larger than t
       pub good_sound : (t most : ℕ) (rings : List ℕ) (got far : ℕ → Bool) → ((c : ℕ) → c < w → Good w h (fr c) (fi c) rings r c) →
           ((c : ℕ) → c < w → (get_or rings (r * w + c) 0 ≤ most) × (0 < get_or rings (r * w + c) 0 → got c ≡ true)) → (t < most → (c : ℕ) → c < w → got c ≡ true → far c ≡ true) →
-          Row-sound w h t far low up rings r
+          RowSound w h t far low up rings r
       good_sound t most rings got far good gets fars c lc = (sound (good c lc), λ l. fars (omega (arith, (gets c lc).0)) c lc ((gets c lc).1 (omega arith)))
         where
           is_free : Good w h (fr c) (fi c) rings r c → 0 < get_or rings (r * w + c) 0 → fr c ≡ true
@@ -145,12 +145,12 @@ module _ (w h rb r : ℕ) (er : rb ≡ row_bytes w) where
           }
 
 -- a row without rings is sound, and one without shadow held
-pub bare_sound : (w h t r : ℕ) (f : Plane) (low up rings : List ℕ) → Bare w rings r → Row-sound w h t f low up rings r
+pub bare_sound : (w h t r : ℕ) (f : Plane) (low up rings : List ℕ) → Bare w rings r → RowSound w h t f low up rings r
 bare_sound w h t r f low up rings none c l =
     let e = none c l in
     (record { free = λ p. absurd (omega arith); first = λ p. absurd (omega arith); leans = λ p. absurd (omega arith) }, λ p. absurd (omega arith))
 
-pub bare_held : (w r : ℕ) (low up below rings : List ℕ) → Shadeless w low up r → Row-held w low up below rings r
+pub bare_held : (w r : ℕ) (low up below rings : List ℕ) → Shadeless w low up r → RowHeld w low up below rings r
 bare_held w r low up below rings none c l s b = clash s (none c l)
 
 -- rows from a up to b, and rows before a

@@ -43,20 +43,20 @@ abbrev pub NoneHangs : List ℕ → List ℕ → List ℕ → ℕ → Type 0
 NoneHangs low below above j = (k : ℕ) → k < 8 → (bit_at (get_or above j 0) k && not (bit_at (get_or low j 0) k || bit_at (get_or below j 0) k)) ≡ false
 
 -- the rings of row r are sound, and those larger than t lie in f
-abbrev pub Row-sound : ℕ → ℕ → ℕ → Plane → List ℕ → List ℕ → List ℕ → ℕ → Type 0
-Row-sound w h t f low up rings r = (c : ℕ) → c < w → SoundRing w h (packed w low) (packed w up) (λ o. get_or rings o 0) (r * w + c) × (t < get_or rings (r * w + c) 0 → f c ≡ true)
+abbrev pub RowSound : ℕ → ℕ → ℕ → Plane → List ℕ → List ℕ → List ℕ → ℕ → Type 0
+RowSound w h t f low up rings r = (c : ℕ) → c < w → SoundRing w h (packed w low) (packed w up) (λ o. get_or rings o 0) (r * w + c) × (t < get_or rings (r * w + c) 0 → f c ≡ true)
 
 -- the rings of row r are sound, and those larger than t are near
-abbrev pub Row-good : ℕ → ℕ → ℕ → ℕ → List ℕ → List ℕ → List ℕ → ℕ → Type 0
-Row-good w h q t low up rings r = Row-sound w h t (λ c. near w h q (packed w low) (r * w + c)) low up rings r
+abbrev pub RowGood : ℕ → ℕ → ℕ → ℕ → List ℕ → List ℕ → List ℕ → ℕ → Type 0
+RowGood w h q t low up rings r = RowSound w h t (λ c. near w h q (packed w low) (r * w + c)) low up rings r
 
 -- row r has no shadow
 abbrev pub Shadeless : ℕ → List ℕ → List ℕ → ℕ → Type 0
 Shadeless w low up r = (c : ℕ) → c < w → shadow (packed w low) (packed w up) (r * w + c) ≡ false
 
 -- each shadow pixel of row r that has no support below has a ring
-abbrev pub Row-held : ℕ → List ℕ → List ℕ → List ℕ → List ℕ → ℕ → Type 0
-Row-held w low up below rings r = (c : ℕ) → c < w → shadow (packed w low) (packed w up) (r * w + c) ≡ true → packed w below (r * w + c) ≡ false → 0 < get_or rings (r * w + c) 0
+abbrev pub RowHeld : ℕ → List ℕ → List ℕ → List ℕ → List ℕ → ℕ → Type 0
+RowHeld w low up below rings r = (c : ℕ) → c < w → shadow (packed w low) (packed w up) (r * w + c) ≡ true → packed w below (r * w + c) ≡ false → 0 < get_or rings (r * w + c) 0
 
 -- a stack of n layers, its support and its rings
 pub record Whole (w h n : ℕ) (part sup rings : List ℕ) : Type 0 where

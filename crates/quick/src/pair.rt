@@ -9,7 +9,7 @@ ghost use Rattle.words.specs.Words.{column, word_bit, Ones};
 ghost use Rattle.planes.specs.Scratch.{Ready, Drawn};
 ghost use Rattle.places.specs.Search.{Sized, bad_here, unheld_here};
 ghost use Rattle.leans.specs.Leaning.{Bare};
-ghost use Rattle.quick.specs.Sureness.{Long, Shadeless, Row-sound, Row-good, Row-held};
+ghost use Rattle.quick.specs.Sureness.{Long, Shadeless, RowSound, RowGood, RowHeld};
 
 use crate::{Close, Passed, Sure};
 use rules::Bound;
@@ -29,8 +29,8 @@ fn shaded_row(
 ) -> Passed
     requires fits { (Sized w h × (r < h)) × (Clean w h low.now × (Long (h * row_bytes w) low.now up.now below.now below.now × (length rings.now ≡ h * w))) }
     requires table { Ones ones.now }
-    ensures row_sound { result.rings ≡ true → Row-sound w h t (column result.far) low.now up.now rings.now r }
-    ensures row_held { result.held ≡ true → Row-held w low.now up.now below.now rings.now r }
+    ensures row_sound { result.rings ≡ true → RowSound w h t (column result.far) low.now up.now rings.now r }
+    ensures row_held { result.held ≡ true → RowHeld w low.now up.now below.now rings.now r }
 {
     let rb = limits::row_bytes(w);
     let above = numbers::less(r, 1);
@@ -99,8 +99,8 @@ fn row(
     requires fits { (Sized w h × (r < h)) × (Clean w h low.now × (Long (h * row_bytes w) low.now up.now below.now below.now × (length rings.now ≡ h * w))) }
     requires table { Ones ones.now × (from ≤ r) }
     ensures bare { result.rings ≡ true → (y : ℕ) → from ≤ y → y < r → Bare w rings.now y }
-    ensures row_sound { result.rings ≡ true → Row-sound w h t (column result.far) low.now up.now rings.now r }
-    ensures row_held { result.held ≡ true → Row-held w low.now up.now below.now rings.now r }
+    ensures row_sound { result.rings ≡ true → RowSound w h t (column result.far) low.now up.now rings.now r }
+    ensures row_held { result.held ≡ true → RowHeld w low.now up.now below.now rings.now r }
 {
     if !leans::marks::bare(rings, from, r, w) {
         return Passed {
@@ -167,8 +167,8 @@ fn rows(
 ) -> Sure
     requires fits { Sized w h × (Clean w h low.now × (Long (h * row_bytes w) low.now up.now below.now below.now × (length rings.now ≡ h * w))) }
     requires scratch { (Ones ones.now × Halves q.0 halves.now) × (Ready w h disc.old × (q.0 ≤ most_bound)) }
-    ensures row_good { result.rings ≡ true → (r : ℕ) → r < h → Row-good w h q.0 t low.now up.now rings.now r }
-    ensures row_held { result.held ≡ true → (r : ℕ) → r < h → Row-held w low.now up.now below.now rings.now r }
+    ensures row_good { result.rings ≡ true → (r : ℕ) → r < h → RowGood w h q.0 t low.now up.now rings.now r }
+    ensures row_held { result.held ≡ true → (r : ℕ) → r < h → RowHeld w low.now up.now below.now rings.now r }
 {
     let mut held = true;
     let mut drawn = false;
@@ -198,7 +198,7 @@ fn rows(
 fn ringless(low: &[u8], up: &[u8], below: &[u8], rings: &[u16], w: usize, h: usize) -> Sure
     requires { Sized w h × (Long (h * row_bytes w) low.now up.now below.now below.now × (length rings.now ≡ h * w)) }
     ensures bare { result.rings ≡ true → (r : ℕ) → r < h → Bare w rings.now r }
-    ensures row_held { result.held ≡ true → (r : ℕ) → r < h → Row-held w low.now up.now below.now rings.now r }
+    ensures row_held { result.held ≡ true → (r : ℕ) → r < h → RowHeld w low.now up.now below.now rings.now r }
 {
     let seen = crate::looks::look(low, up, below, up, h * limits::row_bytes(w));
     Sure {
@@ -222,8 +222,8 @@ fn shaded_pair(
 ) -> Sure
     requires fits { Sized w h × (Clean w h low.now × (Long (h * row_bytes w) low.now up.now below.now below.now × (length rings.now ≡ h * w))) }
     requires tables { (Ones ones.now × Halves q.0 halves.now) × (q.0 ≤ most_bound) }
-    ensures row_good { result.rings ≡ true → (r : ℕ) → r < h → Row-good w h q.0 t low.now up.now rings.now r }
-    ensures row_held { result.held ≡ true → (r : ℕ) → r < h → Row-held w low.now up.now below.now rings.now r }
+    ensures row_good { result.rings ≡ true → (r : ℕ) → r < h → RowGood w h q.0 t low.now up.now rings.now r }
+    ensures row_held { result.held ≡ true → (r : ℕ) → r < h → RowHeld w low.now up.now below.now rings.now r }
 {
     if q.0 == 0 {
         return ringless(low, up, below, rings, w, h);

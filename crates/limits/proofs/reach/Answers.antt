@@ -10,6 +10,6 @@ reach_of-requires c = pitch_good c.args.pitch c.args.overhang c.reach_refusal-k.
 
 pub returns : goal.returns
 returns c = record {
-      answer = reach_yes c.args.pitch c.args.overhang c.reach_refusal-k.result c.reach_of.result c.reach_refusal-k.ensures
-          c.if-k-ne0.false c.reach_of.ensures;
-    }
+  answer = reach_yes c.args.pitch c.args.overhang c.reach_refusal-k.result c.reach_of.result c.reach_refusal-k.ensures
+      c.if-k-ne0.false c.reach_of.ensures;
+}

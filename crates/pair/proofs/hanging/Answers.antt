@@ -18,13 +18,13 @@ rings-requires c = let args = c.args in
 
 pub excuse-requires : goal.excuse-requires
 excuse-requires c = let b = row_bytes_lem c.args.w c.args.h c.requires.sizes.0 in (
-      c.requires.sizes.0,
-      c.find.ensures.aheads.0,
-      c.rings.ensures.rooms.got_room,
-      omega (arith, b, c.requires.sizes.1, c.requires.sizes.0.w_min),
-      omega (arith, b, c.requires.sizes.1),
-      c.requires.clean.2 ∙ ap (λ (x : ℕ). c.args.h * x) (sym c.requires.sizes.1),
-    )
+  c.requires.sizes.0,
+  c.find.ensures.aheads.0,
+  c.rings.ensures.rooms.got_room,
+  omega (arith, b, c.requires.sizes.1, c.requires.sizes.0.w_min),
+  omega (arith, b, c.requires.sizes.1),
+  c.requires.clean.2 ∙ ap (λ (x : ℕ). c.args.h * x) (sym c.requires.sizes.1),
+)
 
 pub unless-requires : goal.unless-requires
 unless-requires c = let args = c.args in
@@ -78,12 +78,12 @@ returns c = let args = c.args in
       rings = ((λ e. c.unless.ensures.0 e ∙ R), c.unless.ensures.1);
       excused = excused_rings _ _ _ _ _ _ R (excused_by _ _ _ z c.requires.sizes.1 _ _ _ _ W.gots c.excuse.ensures);
       spare = record {
-          left_empty = E.0;
-          got_empty = E.1;
-          front_empty = E.2;
-          next_empty = E.3;
-          seed_ready = c.find.ensures.seeds_drawn.ready;
-          lower_ready = c.rings.ensures.rooms.lower_ready;
-          ahead_long = c.find.ensures.aheads.0.long;
-        };
+        left_empty = E.0;
+        got_empty = E.1;
+        front_empty = E.2;
+        next_empty = E.3;
+        seed_ready = c.find.ensures.seeds_drawn.ready;
+        lower_ready = c.rings.ensures.rooms.lower_ready;
+        ahead_long = c.find.ensures.aheads.0.long;
+      };
     }

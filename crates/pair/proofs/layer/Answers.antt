@@ -24,10 +24,10 @@ returns-then-not-support c = let C = c.requires.clean in
 
 pub hanging-requires : goal.hanging-requires
 hanging-requires c = let C = c.requires.clean in record {
-      sizes = c.requires.sizes;
-      clean = (C.0, C.1, c.support.auto.out ∙ C.3, c.begin.auto.ring ∙ C.4, λ p l. c.begin.ensures p (omega (arith, C.4)));
-      spare = c.requires.spare;
-    }
+  sizes = c.requires.sizes;
+  clean = (C.0, C.1, c.support.auto.out ∙ C.3, c.begin.auto.ring ∙ C.4, λ p l. c.begin.ensures p (omega (arith, C.4)));
+  spare = c.requires.spare;
+}
 
 pub shape_of-ring : goal.shape_of-ring
 shape_of-ring c = c.hanging.auto.ring ∙ c.begin.auto.ring

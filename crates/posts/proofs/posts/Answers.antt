@@ -20,14 +20,14 @@ row_bytes-rb-requires c = (range _ _ _ c.args.posts.now _ c.refusal-k.ensures c.
 
 pub stack-requires : goal.stack-requires
 stack-requires c = let R = range _ _ _ c.args.posts.now _ c.refusal-k.ensures c.if-k-ne0.false in record {
-      sized = (
-        record { sizes = record { w_min = omega (arith, R.w_low); w_max = R.w_high; h_min = omega (arith, R.h_low); h_max = R.h_high }; bytes = c.row_bytes-rb.ensures.0 },
-        c.bound_of-q.ensures.1,
-        c.bound_by-r.ensures.1,
-        omega (arith, R.n_low),
-      );
-      lent = lent _ _ _ _ _ c.refusal-k.ensures c.if-k-ne0.false;
-    }
+  sized = (
+    record { sizes = record { w_min = omega (arith, R.w_low); w_max = R.w_high; h_min = omega (arith, R.h_low); h_max = R.h_high }; bytes = c.row_bytes-rb.ensures.0 },
+    c.bound_of-q.ensures.1,
+    c.bound_by-r.ensures.1,
+    omega (arith, R.n_low),
+  );
+  lent = lent _ _ _ _ _ c.refusal-k.ensures c.if-k-ne0.false;
+}
 
 pub returns : goal.returns
 returns c = posts_done _ _ _ _ _ c.refusal-k.ensures c.if-k-ne0.false _ c.bound_of-q.ensures.0 _ c.bound_by-r.ensures.0 c.stack.new.posts c.stack.ensures

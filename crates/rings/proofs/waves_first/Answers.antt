@@ -21,10 +21,10 @@ returns-then-a-eq0 c = let A = c.requires.planes in
 
 pub waves-k-requires : goal.waves-k-requires
 waves-k-requires c = record {
-      planes = c.wave-a.ensures.planes;
-      room = (c.wave-a.ensures.room, c.requires.rooms.next_room);
-      steps = (omega arith, omega (arith, c.requires.sizes.3), omega (arith, c.requires.sizes.4), c.requires.sizes.6);
-    }
+  planes = c.wave-a.ensures.planes;
+  room = (c.wave-a.ensures.room, c.requires.rooms.next_room);
+  steps = (omega arith, omega (arith, c.requires.sizes.3), omega (arith, c.requires.sizes.4), c.requires.sizes.6);
+}
 
 pub returns-then-k-eq0 : goal.returns-then-k-eq0
 returns-then-k-eq0 c = let A = c.requires.planes in
@@ -39,10 +39,10 @@ returns-then-k-eq0 c = let A = c.requires.planes in
 
 pub farther-requires : goal.farther-requires
 farther-requires c = let R = c.requires.rooms in record {
-      planes = c.waves-k.ensures.planes;
-      rooms = record { left_room = c.waves-k.ensures.planes.left_room; got_room = c.waves-k.ensures.planes.got_room; front_room = c.waves-k.ensures.room.0; next_room = c.waves-k.ensures.room.1; lower_ready = R.lower_ready };
-      sizes = (c.requires.sizes.0, c.requires.sizes.1, c.requires.sizes.2, omega (arith, c.if-k-eq0.false), omega (arith, c.waves-k.ensures.most, c.requires.sizes.4), c.requires.sizes.5, c.requires.sizes.6);
-    }
+  planes = c.waves-k.ensures.planes;
+  rooms = record { left_room = c.waves-k.ensures.planes.left_room; got_room = c.waves-k.ensures.planes.got_room; front_room = c.waves-k.ensures.room.0; next_room = c.waves-k.ensures.room.1; lower_ready = R.lower_ready };
+  sizes = (c.requires.sizes.0, c.requires.sizes.1, c.requires.sizes.2, omega (arith, c.if-k-eq0.false), omega (arith, c.waves-k.ensures.most, c.requires.sizes.4), c.requires.sizes.5, c.requires.sizes.6);
+}
 
 pub shape_of-ring : goal.shape_of-ring
 shape_of-ring c = c.farther.auto.ring ∙ c.waves-k.auto.ring ∙ c.wave-a.auto.ring

@@ -28,10 +28,10 @@ loop-d-smaller c = omega (arith, square_small c.args.q c.loop-d.d c.requires.0 c
 
 pub loop-d-preserved : goal.loop-d-preserved
 loop-d-preserved c = (
-      halves_more c.args.q c.loop-d.d c.half_width-half.result.0 c.loop-d.out (square_small c.args.q c.loop-d.d c.requires.0 c.loop-d-test.true)
-          c.half_width-half.ensures c.loop-d.invariant.0,
-      omega (arith, square_small c.args.q c.loop-d.d c.requires.0 c.loop-d-test.true),
-    )
+  halves_more c.args.q c.loop-d.d c.half_width-half.result.0 c.loop-d.out (square_small c.args.q c.loop-d.d c.requires.0 c.loop-d-test.true)
+      c.half_width-half.ensures c.loop-d.invariant.0,
+  omega (arith, square_small c.args.q c.loop-d.d c.requires.0 c.loop-d-test.true),
+)
 
 pub shape_of-out : goal.shape_of-out
 shape_of-out c = c.loop-d.invariant.0.long ∙ sym c.requires.1

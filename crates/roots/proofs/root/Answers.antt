@@ -1,6 +1,4 @@
-
 use Rattle.roots.proofs.root.Goals as goal
-
 -- The rule of the table, once over all of it: its entries are held against the 32 runs of roots, by computing.
 use mathlib.Core.Path.{◌∙◌}
 use Rattle.rules.specs.Tools.{joined_up}

@@ -7,15 +7,15 @@ read_plane-requires c = (c.requires.sizes.0, c.requires.sizes.1, c.requires.size
 
 pub far-requires : goal.far-requires
 far-requires c = record {
-      sizes = (c.requires.sizes.0, c.read_plane.ensures.ready, c.requires.sizes.5, c.requires.disc.0, c.requires.disc.1);
-      row_whole = c.requires.disc.2;
-    }
+  sizes = (c.requires.sizes.0, c.read_plane.ensures.ready, c.requires.sizes.5, c.requires.disc.0, c.requires.disc.1);
+  row_whole = c.requires.disc.2;
+}
 
 pub far-requires-2 : goal.far-requires-2
 far-requires-2 c = record {
-      sizes = (c.requires.sizes.0, c.far.ensures.ready, c.read_plane.ensures.ready, c.requires.disc.0, c.requires.disc.1);
-      row_whole = c.requires.disc.2;
-    }
+  sizes = (c.requires.sizes.0, c.far.ensures.ready, c.read_plane.ensures.ready, c.requires.disc.0, c.requires.disc.1);
+  row_whole = c.requires.disc.2;
+}
 
 pub pack-requires : goal.pack-requires
 pack-requires c = (c.requires.sizes.0, c.requires.sizes.1, c.far-2.ensures.ready, c.requires.sizes.3)

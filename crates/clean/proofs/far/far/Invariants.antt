@@ -13,7 +13,7 @@ use native.Mathlib.Omega.{arith}
 use Rattle.clean.proofs.far.far.Given as goal
 
 abbrev pub invariant-loop-y : goal.invariant-loop-y
-invariant-loop-y l =     (l.y ≤ l.h) × (length l.to ≡ length l.initial.to) × Upto l.y (pixel_bits l.w l.h (λ p. not (near l.w l.h (l.c.0 * l.c.0) (seen l.w l.from) p))) l.initial.to l.to × Ahead l.w l.c.0 (l.y + l.c.0) l.from l.t
+invariant-loop-y l = (l.y ≤ l.h) × (length l.to ≡ length l.initial.to) × Upto l.y (pixel_bits l.w l.h (λ p. not (near l.w l.h (l.c.0 * l.c.0) (seen l.w l.from) p))) l.initial.to l.to × Ahead l.w l.c.0 (l.y + l.c.0) l.from l.t
 
 abbrev pub decreases-loop-y : goal.decreases-loop-y
 decreases-loop-y l = l.h - l.y

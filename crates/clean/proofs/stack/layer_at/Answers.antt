@@ -9,10 +9,10 @@ use Rattle.clean.proofs.stack.layer_at.Goals as goal
 
 pub widen-requires : goal.widen-requires
 widen-requires c = let L = c.requires.lent.0 in record {
-      sized = c.requires.sized;
-      lent = (L.support_long, L.support_clear, c.requires.lent.1, c.requires.lent.2);
-      packs = c.requires.down.wide_is;
-    }
+  sized = c.requires.sized;
+  lent = (L.support_long, L.support_clear, c.requires.lent.1, c.requires.lent.2);
+  packs = c.requires.down.wide_is;
+}
 
 pub overflow_mul-size : goal.overflow_mul-size
 overflow_mul-size c = omega (arith, plane_size c.args.w c.args.h c.args.rb c.requires.sized.0)

@@ -22,15 +22,15 @@ layer_at-requires c = let A = c.args in
     let e : L.i ≡ suc (L.i - 1) = omega (arith, c.loop-i-test.true) in record {
       sized = (c.requires.sized.0, omega (arith, L.invariant.1, c.loop-i-test.true), c.requires.sized.2, c.requires.sized.3, c.requires.sized.4);
       lent = (
-          record {
-            part_long = c.requires.lent.0.part_long;
-            support_long = c.requires.lent.0.support_long;
-            support_clear = c.requires.lent.0.support_clear;
-            clean_long = L.invariant.0 ∙ c.requires.lent.0.clean_long;
-          },
-          L.invariant.3,
-          L.invariant.4,
-        );
+        record {
+          part_long = c.requires.lent.0.part_long;
+          support_long = c.requires.lent.0.support_long;
+          support_clear = c.requires.lent.0.support_clear;
+          clean_long = L.invariant.0 ∙ c.requires.lent.0.clean_long;
+        },
+        L.invariant.3,
+        L.invariant.4,
+      );
       down = subst (λ (k : ℕ). Down A.w A.h A.n (A.c.0 * A.c.0) k A.part.now A.support.now L.clean L.wide) e L.invariant.2;
     }
 

@@ -48,12 +48,12 @@ layers-requires c = let A = c.args in
     let size = A.h * A.rb in record {
       sized = (c.requires.sized.0, c.requires.sized.1, c.requires.sized.2, c.halves.ensures, c.full-all.ensures);
       lent = (
-          record { part_long = L.part_long; support_long = L.support_long; support_clear = L.support_clear; clean_long = c.top.auto.support ∙ L.clean_long },
-          zero_ready A.w A.h,
-          zero_ready A.w A.h,
-        );
+        record { part_long = L.part_long; support_long = L.support_long; support_clear = L.support_clear; clean_long = c.top.auto.support ∙ L.clean_long },
+        zero_ready A.w A.h,
+        zero_ready A.w A.h,
+      );
       down = down_start A.w A.h A.n (A.c.0 * A.c.0) A.part.now A.support.now c.requires.sized.0.sizes.w_min A.clean.now c.top.new.support (take size (replicate 8192 0)) c.requires.sized.1 L c.requires.lent.1
-            c.top.ensures.1 c.top.ensures.0 (zeros_small size) (fresh_pack A.w A.h c.requires.sized.0.sizes.w_min size Z.0 Z.1);
+          c.top.ensures.1 c.top.ensures.0 (zeros_small size) (fresh_pack A.w A.h c.requires.sized.0.sizes.w_min size Z.0 Z.1);
     }
 
 pub shape_of-clean : goal.shape_of-clean

@@ -20,22 +20,20 @@ compare-l-requires c = let A = c.args in
     up_room A.w A.h A.n (A.h * A.rb) A.i (length A.support.now) (plane_size A.w A.h A.rb c.requires.sized.0).0 c.requires.lent.0 c.requires.sized.1
 
 pub returns-then-l : goal.returns-then-l
-returns-then-l c = let A = c.args in
-    (
-      same_closing A.w A.h A.n (A.c.0 * A.c.0) A.support.now A.support.now c.requires.sized.0.sizes.w_min A.i (A.h * A.rb) (plane_size A.w A.h A.rb c.requires.sized.0).0
-          A.wide.now c.requires.lent.0 (c.compare-l.ensures.same c.if-l.true) c.requires.packs,
-      c.requires.lent.2,
-      c.requires.lent.3,
-    )
+returns-then-l c = let A = c.args in (
+  same_closing A.w A.h A.n (A.c.0 * A.c.0) A.support.now A.support.now c.requires.sized.0.sizes.w_min A.i (A.h * A.rb) (plane_size A.w A.h A.rb c.requires.sized.0).0
+      A.wide.now c.requires.lent.0 (c.compare-l.ensures.same c.if-l.true) c.requires.packs,
+  c.requires.lent.2,
+  c.requires.lent.3,
+)
 
 pub returns-then-l-2 : goal.returns-then-l-2
-returns-then-l-2 c = let A = c.args in
-    (
-      no_closing A.w A.h A.n (A.c.0 * A.c.0) A.support.now A.support.now c.requires.sized.0.sizes.w_min A.i (A.h * A.rb) (plane_size A.w A.h A.rb c.requires.sized.0).0 _
-          c.requires.lent.0 (c.zero.auto.s ∙ c.requires.packs.clean.long) (c.compare-l.ensures.empty c.if-l-2.true) c.zero.ensures,
-      c.requires.lent.2,
-      c.requires.lent.3,
-    )
+returns-then-l-2 c = let A = c.args in (
+  no_closing A.w A.h A.n (A.c.0 * A.c.0) A.support.now A.support.now c.requires.sized.0.sizes.w_min A.i (A.h * A.rb) (plane_size A.w A.h A.rb c.requires.sized.0).0 _
+      c.requires.lent.0 (c.zero.auto.s ∙ c.requires.packs.clean.long) (c.compare-l.ensures.empty c.if-l-2.true) c.zero.ensures,
+  c.requires.lent.2,
+  c.requires.lent.3,
+)
 
 pub overflow_add-at : goal.overflow_add-at
 overflow_add-at c = let A = c.args in
@@ -47,16 +45,16 @@ slice_bounds-close-end c = let A = c.args in
 
 pub close-requires : goal.close-requires
 close-requires c = let A = c.args in record {
-      sizes = (
-        c.requires.sized.0.sizes,
-        c.requires.sized.0.bytes,
-        lent_low A.w A.h A.n (A.h * A.rb) A.i A.support.now (plane_size A.w A.h A.rb c.requires.sized.0).0 c.requires.lent.0 c.requires.lent.1 c.requires.sized.1,
-        c.requires.packs.clean.long,
-        c.requires.lent.2,
-        c.requires.lent.3,
-      );
-      disc = (c.requires.sized.2, c.requires.sized.3, c.requires.sized.4);
-    }
+  sizes = (
+    c.requires.sized.0.sizes,
+    c.requires.sized.0.bytes,
+    lent_low A.w A.h A.n (A.h * A.rb) A.i A.support.now (plane_size A.w A.h A.rb c.requires.sized.0).0 c.requires.lent.0 c.requires.lent.1 c.requires.sized.1,
+    c.requires.packs.clean.long,
+    c.requires.lent.2,
+    c.requires.lent.3,
+  );
+  disc = (c.requires.sized.2, c.requires.sized.3, c.requires.sized.4);
+}
 
 pub shape_of-wide : goal.shape_of-wide
 shape_of-wide c = c.close.ensures.0.clean.long ∙ sym c.requires.packs.clean.long
@@ -68,10 +66,9 @@ pub shape_of-b : goal.shape_of-b
 shape_of-b c = c.close.ensures.2.long ∙ sym c.requires.lent.3.long
 
 pub returns : goal.returns
-returns c = let A = c.args in
-    (
-      cut_closing A.w A.h A.n (A.c.0 * A.c.0) A.support.now A.support.now c.requires.sized.0.sizes.w_min A.i (A.h * A.rb) (plane_size A.w A.h A.rb c.requires.sized.0).0 _
-          c.requires.lent.0 c.close.ensures.0,
-      c.close.ensures.1,
-      c.close.ensures.2,
-    )
+returns c = let A = c.args in (
+  cut_closing A.w A.h A.n (A.c.0 * A.c.0) A.support.now A.support.now c.requires.sized.0.sizes.w_min A.i (A.h * A.rb) (plane_size A.w A.h A.rb c.requires.sized.0).0 _
+      c.requires.lent.0 c.close.ensures.0,
+  c.close.ensures.1,
+  c.close.ensures.2,
+)

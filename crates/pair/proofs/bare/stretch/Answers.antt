@@ -20,10 +20,10 @@ loop-i-smaller c = omega (arith, c.loop-i-test.true)
 
 pub loop-i-preserved : goal.loop-i-preserved
 loop-i-preserved c = let L = c.loop-i in (
-      length-set L.ring _ 0 ∙ L.invariant.0,
-      omega (arith, c.loop-i-test.true),
-      stretch_more _ L.i c.args.ring.now L.ring (omega (arith, c.loop-i-test.true, c.requires, L.invariant.0)) L.invariant.2,
-    )
+  length-set L.ring _ 0 ∙ L.invariant.0,
+  omega (arith, c.loop-i-test.true),
+  stretch_more _ L.i c.args.ring.now L.ring (omega (arith, c.loop-i-test.true, c.requires, L.invariant.0)) L.invariant.2,
+)
 
 pub shape_of-ring : goal.shape_of-ring
 shape_of-ring c = c.loop-i.invariant.0

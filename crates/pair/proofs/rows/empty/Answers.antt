@@ -14,17 +14,17 @@ bounds-ahead-0 c = omega (arith, c.requires.1.long)
 
 pub loop-y-init : goal.loop-y-init
 loop-y-init c = let pre = c.requires in (
-      (pre.1.on 0 (omega arith)).1,
-      refl,
-      refl,
-      refl,
-      refl,
-      empty_start _ _ _ _ pre.0 pre.2,
-      empty_start _ _ _ _ pre.0 pre.3,
-      empty_start _ _ _ _ pre.0 pre.4,
-      empty_start _ _ _ _
-          pre.0 pre.5,
-    )
+  (pre.1.on 0 (omega arith)).1,
+  refl,
+  refl,
+  refl,
+  refl,
+  empty_start _ _ _ _ pre.0 pre.2,
+  empty_start _ _ _ _ pre.0 pre.3,
+  empty_start _ _ _ _ pre.0 pre.4,
+  empty_start _ _ _ _
+      pre.0 pre.5,
+)
 
 pub overflow_add-y : goal.overflow_add-y
 overflow_add-y c = omega (arith, c.requires.0.h_max, c.loop-y-test.true)

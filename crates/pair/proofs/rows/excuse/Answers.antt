@@ -50,8 +50,7 @@ pub loop-y-preserved-then-any : goal.loop-y-preserved-then-any
 loop-y-preserved-then-any c = let p = c.requires in
     let s = c.loop-y in
     let t = c.loop-y-test.true in
-    let o = p.1.on (s.y + 1) (omega (arith, t)) in
-    (
+    let o = p.1.on (s.y + 1) (omega (arith, t)) in (
       o.1,
       excused_next _ _ _ _ _ p.0 p.2 p.3 p.4 s.y _ _ _ t (omega arith) refl
           (excused_row _ _ (column c.row-x.result) _ _ _ _ p.4 c.take.auto.out c.row-x.ensures c.take.ensures s.invariant.1),
@@ -66,8 +65,7 @@ pub loop-y-preserved : goal.loop-y-preserved
 loop-y-preserved c = let p = c.requires in
     let s = c.loop-y in
     let t = c.loop-y-test.true in
-    let o = p.1.on (s.y + 1) (omega (arith, t)) in
-    (
+    let o = p.1.on (s.y + 1) (omega (arith, t)) in (
       o.1,
       excused_next _ _ _ _ _ p.0 p.2 p.3 p.4 s.y _ _ _ t (omega arith) refl
           (excused_empty _ _ _ _ _ p.0 p.2 p.3 p.4 s.y (column c.row-x.result) _ _ t c.row-x.ensures (c.any.ensures.none c.if-any.false) s.invariant.1),

@@ -66,14 +66,14 @@ layer-requires c = let A = c.args in
     let size = A.h * A.rb in record {
       sizes = (c.requires.sized.0.sizes, c.requires.sized.0.bytes, c.requires.sized.1, c.requires.sized.3, c.requires.sized.4);
       clean = (
-          lent_low A.w A.h A.n size A.i A.part.now es B.part_long B.clean c.requires.sized.2,
-          lent_up A.w A.h A.n size A.i A.part.now es B.part_long B.clean c.requires.sized.2,
-          c.requires.down.above_is.clean,
-          lent_support A.w A.h A.n size A.i A.support.now es B.support_long (omega (arith, c.requires.sized.2)),
-          lent_rings A.keep A.w A.h A.n c.plane_step-step.result A.i A.rings.now c.plane_step-step.ensures B.rings_long c.requires.sized.2,
-        );
+        lent_low A.w A.h A.n size A.i A.part.now es B.part_long B.clean c.requires.sized.2,
+        lent_up A.w A.h A.n size A.i A.part.now es B.part_long B.clean c.requires.sized.2,
+        c.requires.down.above_is.clean,
+        lent_support A.w A.h A.n size A.i A.support.now es B.support_long (omega (arith, c.requires.sized.2)),
+        lent_rings A.keep A.w A.h A.n c.plane_step-step.result A.i A.rings.now c.plane_step-step.ensures B.rings_long c.requires.sized.2,
+      );
       apart = above_apart A.keep A.w A.h A.n A.q.0 size A.i c.requires.sized.0.sizes.w_min A.part.now A.support.now A.rings.now A.above.now es
-              B.part_long c.requires.sized.2 c.requires.down;
+          B.part_long c.requires.sized.2 c.requires.down;
       spare = c.requires.spare;
       unasked = lent_bare A.keep A.w A.h A.n c.plane_step-step.result A.i A.rings.now c.plane_step-step.ensures B.rings_long c.requires.sized.2 B.bare;
     }

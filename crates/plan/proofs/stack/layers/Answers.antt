@@ -22,12 +22,12 @@ layer_at-requires c = let A = c.args in
     let e : L.i ≡ L.i - 1 + 1 = omega (arith, c.loop-i-test.true) in record {
       sized = (c.requires.sized.0, c.requires.sized.1, omega (arith, L.invariant.3, c.loop-i-test.true), c.requires.sized.3, c.requires.sized.4);
       buffers = record {
-          part_long = c.requires.buffers.part_long;
-          clean = c.requires.buffers.clean;
-          support_long = L.invariant.0 ∙ c.requires.buffers.support_long;
-          rings_long = L.invariant.1 ∙ c.requires.buffers.rings_long;
-          bare = L.invariant.4.bare;
-        };
+        part_long = c.requires.buffers.part_long;
+        clean = c.requires.buffers.clean;
+        support_long = L.invariant.0 ∙ c.requires.buffers.support_long;
+        rings_long = L.invariant.1 ∙ c.requires.buffers.rings_long;
+        bare = L.invariant.4.bare;
+      };
       down = subst (λ (k : ℕ). Down A.keep A.w A.h A.n A.q.0 k A.part.now L.support L.rings L.above) e L.invariant.4;
       spare = L.invariant.5;
     }
@@ -37,14 +37,14 @@ loop-i-smaller c = omega (arith, c.loop-i-test.true)
 
 pub loop-i-preserved : goal.loop-i-preserved
 loop-i-preserved c = (
-      c.layer_at.auto.support ∙ c.loop-i.invariant.0,
-      c.layer_at.auto.rings ∙ c.loop-i.invariant.1,
-      c.layer_at.auto.above
-          ∙ c.loop-i.invariant.2,
-      omega (arith, c.loop-i.invariant.3),
-      c.layer_at.ensures.down,
-      c.layer_at.ensures.spare,
-    )
+  c.layer_at.auto.support ∙ c.loop-i.invariant.0,
+  c.layer_at.auto.rings ∙ c.loop-i.invariant.1,
+  c.layer_at.auto.above
+      ∙ c.loop-i.invariant.2,
+  omega (arith, c.loop-i.invariant.3),
+  c.layer_at.ensures.down,
+  c.layer_at.ensures.spare,
+)
 
 pub shape_of-support : goal.shape_of-support
 shape_of-support c = c.loop-i.invariant.0

@@ -40,8 +40,8 @@ layers-requires c = let A = c.args in
       sized = (c.requires.sized.0, c.requires.sized.1, c.requires.sized.2, c.halves.ensures, c.fill.ensures);
       buffers = record { part_long = c.requires.buffers.part_long; clean = c.requires.buffers.clean; support_long = c.top.auto.support ∙ c.requires.buffers.support_long; rings_long = c.requires.buffers.rings_long; bare = c.requires.buffers.bare };
       down = down_start A.keep A.w A.h A.n A.q.0 c.requires.sized.0.sizes.w_min A.part.now c.requires.buffers.part_long A.support.now c.top.new.support A.rings.now
-              (take size (replicate 8192 0)) c.requires.sized.2 c.requires.buffers.support_long c.requires.buffers.rings_long c.requires.buffers.bare c.top.ensures.1 c.top.ensures.0
-              (zeros_small size) (fresh_pack A.w A.h c.requires.sized.0.sizes.w_min size Z.0 Z.1);
+          (take size (replicate 8192 0)) c.requires.sized.2 c.requires.buffers.support_long c.requires.buffers.rings_long c.requires.buffers.bare c.top.ensures.1 c.top.ensures.0
+          (zeros_small size) (fresh_pack A.w A.h c.requires.sized.0.sizes.w_min size Z.0 Z.1);
       spare = fresh_spare A.w A.h;
     }
 

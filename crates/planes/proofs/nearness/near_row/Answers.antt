@@ -20,16 +20,16 @@ overflow_add-d c = omega (arith, c.loop-d-test.true, half_root _ _ c.requires.3,
 
 pub further-x-requires : goal.further-x-requires
 further-x-requires c = let pre = c.requires in (
-      omega arith,
-      omega arith,
-      omega arith,
-      omega arith,
-      omega (arith, c.loop-d-test.true, half_root _ _ pre.3, root_small c.args.q.0 pre.2),
-      reach_in c.args.q.0 _
-          (omega (arith, c.loop-d-test.true, half_root _ _ pre.3)),
-      pre.2,
-      pre.3,
-    )
+  omega arith,
+  omega arith,
+  omega arith,
+  omega arith,
+  omega (arith, c.loop-d-test.true, half_root _ _ pre.3, root_small c.args.q.0 pre.2),
+  reach_in c.args.q.0 _
+      (omega (arith, c.loop-d-test.true, half_root _ _ pre.3)),
+  pre.2,
+  pre.3,
+)
 
 pub loop-d-smaller : goal.loop-d-smaller
 loop-d-smaller c = omega (arith, c.loop-d-test.true)
@@ -46,11 +46,11 @@ bounds-half-d c = omega (arith, c.requires.3.long, c.loop-d.invariant.0, half_ro
 
 pub widen-requires : goal.widen-requires
 widen-requires c = omega (
-      arith,
-      half_is _ c.loop-d.d _ c.requires.3 (reach_in c.args.q.0 _ (omega (arith, c.loop-d.invariant.0, half_root _ _ c.requires.3))),
-      half_max c.args.q.0 c.loop-d.d
-          c.requires.2,
-    )
+  arith,
+  half_is _ c.loop-d.d _ c.requires.3 (reach_in c.args.q.0 _ (omega (arith, c.loop-d.invariant.0, half_root _ _ c.requires.3))),
+  half_max c.args.q.0 c.loop-d.d
+      c.requires.2,
+)
 
 pub returns : goal.returns
 returns c = let args = c.args in

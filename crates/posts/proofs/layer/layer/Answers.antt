@@ -35,11 +35,11 @@ returns-then-not-meet c = let A = c.args in
 
 pub thin-requires : goal.thin-requires
 thin-requires c = record {
-      sized = c.requires.sized;
-      clean = c.requires.clean;
-      apart = c.requires.apart;
-      scratch = c.requires.scratch;
-    }
+  sized = c.requires.sized;
+  clean = c.requires.clean;
+  apart = c.requires.apart;
+  scratch = c.requires.scratch;
+}
 
 pub shape_of-out : goal.shape_of-out
 shape_of-out c = c.thin.auto.out

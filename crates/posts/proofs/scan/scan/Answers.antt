@@ -23,9 +23,9 @@ loop-y-init c = (
 
 pub scan_row-requires : goal.scan_row-requires
 scan_row-requires c = record {
-      planes = (c.loop-y.invariant.4, c.loop-y-test.true, c.requires.disc.0, c.requires.disc.1);
-      done = c.loop-y.invariant.5;
-    }
+  planes = (c.loop-y.invariant.4, c.loop-y-test.true, c.requires.disc.0, c.requires.disc.1);
+  done = c.loop-y.invariant.5;
+}
 
 pub loop-y-preserved : goal.loop-y-preserved
 loop-y-preserved c = (

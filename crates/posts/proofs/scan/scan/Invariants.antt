@@ -11,7 +11,7 @@ use borrow.Author.Rules.{rules}
 use Rattle.posts.proofs.scan.scan.Given as goal
 
 abbrev pub invariant-loop-y : goal.invariant-loop-y
-invariant-loop-y l =     (length l.rest ≡ length l.initial.rest) × (length l.got ≡ length l.initial.got) × (length l.out ≡ length l.initial.out) × (l.y ≤ l.h) × ScanPlanes l.w l.h l.n l.rest l.got l.out
+invariant-loop-y l = (length l.rest ≡ length l.initial.rest) × (length l.got ≡ length l.initial.got) × (length l.out ≡ length l.initial.out) × (l.y ≤ l.h) × ScanPlanes l.w l.h l.n l.rest l.got l.out
     × ((p : ℕ) → p < l.y * l.w → seen l.w l.rest p ≡ false) × Scanning l.w l.h l.q.0 l.initial.rest l.initial.out l.rest l.out
 
 abbrev pub decreases-loop-y : goal.decreases-loop-y

@@ -106,7 +106,7 @@ shape_of-out c = c.loop-k.invariant.2
 
 pub returns : goal.returns
 returns c = let S = c.loop-k.invariant.4 in record {
-      planes = S;
-      scanning = c.loop-k.invariant.6;
-      done = row_done _ _ S.sizes _ S.rest_ready _ _ c.requires.planes.1 c.loop-k.invariant.5 (omega (arith, c.loop-k-test.false, c.loop-k.invariant.3));
-    }
+  planes = S;
+  scanning = c.loop-k.invariant.6;
+  done = row_done _ _ S.sizes _ S.rest_ready _ _ c.requires.planes.1 c.loop-k.invariant.5 (omega (arith, c.loop-k-test.false, c.loop-k.invariant.3));
+}

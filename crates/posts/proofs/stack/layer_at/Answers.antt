@@ -44,11 +44,11 @@ layer-requires c = let A = c.args in
     let size = A.h * A.rb in record {
       sized = (c.requires.sized.0, c.requires.sized.1, c.requires.sized.2);
       clean = (
-          lent_low A.w A.h A.n size A.i A.part.now es B.part_long B.clean c.requires.sized.3,
-          lent_up A.w A.h A.n size A.i A.part.now es B.part_long B.clean c.requires.sized.3,
-          D.above_is.clean,
-          (own_packs A.w A.h A.n A.q.0 A.r.0 c.requires.sized.0.sizes.w_min A.part.now c.requires.lent.part_long A.i A.posts.now A.above.now c.requires.sized.3 c.requires.down (A.h * A.rb) es).clean,
-        );
+        lent_low A.w A.h A.n size A.i A.part.now es B.part_long B.clean c.requires.sized.3,
+        lent_up A.w A.h A.n size A.i A.part.now es B.part_long B.clean c.requires.sized.3,
+        D.above_is.clean,
+        (own_packs A.w A.h A.n A.q.0 A.r.0 c.requires.sized.0.sizes.w_min A.part.now c.requires.lent.part_long A.i A.posts.now A.above.now c.requires.sized.3 c.requires.down (A.h * A.rb) es).clean,
+      );
       apart = above_apart A.w A.h A.n A.q.0 A.r.0 c.requires.sized.0.sizes.w_min A.part.now c.requires.lent.part_long A.i A.posts.now A.above.now c.requires.sized.3 c.requires.down (A.h * A.rb) es;
       gone_down_in = above_inside A.w A.h A.n A.q.0 A.r.0 c.requires.sized.0.sizes.w_min A.part.now c.requires.lent.part_long A.i A.posts.now A.above.now c.requires.sized.3 c.requires.down (A.h * A.rb) es;
       scratch = c.requires.scratch;

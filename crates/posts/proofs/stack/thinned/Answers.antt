@@ -40,7 +40,7 @@ layers-requires c = let A = c.args in
       sized = (c.requires.sized.0, c.requires.sized.1, c.halves.ensures, c.requires.sized.2);
       lent = c.requires.lent.0;
       down = down_start A.w A.h A.n A.q.0 A.r.0 lw A.part.now c.requires.lent.0.part_long A.posts.now _ c.requires.sized.2 c.requires.planned
-              (fresh_pack A.w A.h lw (A.h * A.rb) Z.0 Z.1);
+          (fresh_pack A.w A.h lw (A.h * A.rb) Z.0 Z.1);
       scratch = fresh_scratch A.w A.h (A.h * A.rb) A.ring.now Z.0 Z.1 c.requires.lent.1 c.requires.lent.2;
     }
 

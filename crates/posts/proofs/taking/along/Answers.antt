@@ -15,9 +15,9 @@ loop-free-smaller c = joining_less _ _ _ _ (column_in c.loop-free.more) c.loop-f
 
 pub loop-free-preserved : goal.loop-free-preserved
 loop-free-preserved c = (
-      joining_more _ _ _ _ (column_in c.loop-free.more) c.loop-free.invariant.0 c.loop-free.invariant.1 _ c.either-s.ensures,
-      more_is _ _ _ (column c.wide-in-loop-free.result) (column c.both-in-loop-free.result) _ c.wide-in-loop-free.ensures c.both-in-loop-free.ensures c.but_not-more-in-loop-free.ensures,
-    )
+  joining_more _ _ _ _ (column_in c.loop-free.more) c.loop-free.invariant.0 c.loop-free.invariant.1 _ c.either-s.ensures,
+  more_is _ _ _ (column c.wide-in-loop-free.result) (column c.both-in-loop-free.result) _ c.wide-in-loop-free.ensures c.both-in-loop-free.ensures c.but_not-more-in-loop-free.ensures,
+)
 
 pub returns : goal.returns
 returns c = joining_end _ _ _ _ (column_in c.loop-free.more) c.loop-free.invariant.0 c.loop-free.invariant.1 (column_in c.args.free) (c.any.ensures.none c.loop-free-test.false)

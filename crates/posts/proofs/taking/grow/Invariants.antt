@@ -14,7 +14,7 @@ use borrow.Author.Rules.{rules}
 use Rattle.posts.proofs.taking.grow.Given as goal
 
 abbrev pub invariant-loop-d : goal.invariant-loop-d
-invariant-loop-d l =     (length l.rest ≡ 1610) × (length l.got ≡ 1610) × (1 ≤ l.rows) × (l.rows ≤ l.reach + 1) × ((l.d ≤ l.sure) × (l.sure ≤ l.reach + 1) × (l.d < l.sure → (l.d < l.rows) × (l.d ≤ l.reach)))
+invariant-loop-d l = (length l.rest ≡ 1610) × (length l.got ≡ 1610) × (1 ≤ l.rows) × (l.rows ≤ l.reach + 1) × ((l.d ≤ l.sure) × (l.sure ≤ l.reach + 1) × (l.d < l.sure → (l.d < l.rows) × (l.d ≤ l.reach)))
     × ((q : ℕ) → q ≤ most_bound → Halves q l.half → (was : List ℕ) → Ahead l.y l.c was → Taking q l.y l.c 1 was l.initial.rest l.initial.got → Taking q l.y l.c l.rows was l.rest l.got × ClosedBut q l.y l.c l.sure l.d l.rest l.got)
 
 abbrev pub decreases-loop-d : goal.decreases-loop-d

@@ -27,10 +27,10 @@ loop-d-smaller c = omega (arith, c.loop-d-test.true)
 
 pub loop-d-preserved : goal.loop-d-preserved
 loop-d-preserved c = (
-      c.put_two.auto.l ∙ c.loop-d.invariant.0,
-      omega (arith, c.loop-d-test.true),
-      wiped_more _ c.loop-d.d _ _ _ (column c.none.result) c.none.ensures c.put_two.ensures c.loop-d.invariant.2,
-    )
+  c.put_two.auto.l ∙ c.loop-d.invariant.0,
+  omega (arith, c.loop-d-test.true),
+  wiped_more _ c.loop-d.d _ _ _ (column c.none.result) c.none.ensures c.put_two.ensures c.loop-d.invariant.2,
+)
 
 pub shape_of-got : goal.shape_of-got
 shape_of-got c = c.loop-d.invariant.0

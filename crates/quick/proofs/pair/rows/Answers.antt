@@ -3,7 +3,7 @@ use Rattle.places.specs.Rows.{area_fit}
 use borrow.Author.Count.{below_more}
 use mathlib.Core.Path.{refl, sym, ◌∙◌}
 use Prim.Native.Nat.{ℕ}
-use Rattle.quick.specs.Sureness.{Row-good, Row-held}
+use Rattle.quick.specs.Sureness.{RowGood, RowHeld}
 use Rattle.quick.specs.RowsOfPair.{bare_sound, bare_held, rows_more, low_long}
 use native.Mathlib.Omega.{arith}
 use Rattle.quick.proofs.pair.rows.Goals as goal
@@ -48,8 +48,8 @@ loop-r-preserved c = let a = c.args in
     let b = sym c.both.ensures ∙ c.if-not-both.false in
     let g = and_l c.row-s.result.rings c.near_all-n.result.good b in
     let d = c.shaded-r-in-loop-r.ensures in
-    let G : ℕ → Type 0 = Row-good a.w a.h a.q.0 a.t a.low.now a.up.now a.rings.now in
-    let H : ℕ → Type 0 = Row-held a.w a.low.now a.up.now a.below.now a.rings.now in (
+    let G : ℕ → Type 0 = RowGood a.w a.h a.q.0 a.t a.low.now a.up.now a.rings.now in
+    let H : ℕ → Type 0 = RowHeld a.w a.low.now a.up.now a.below.now a.rings.now in (
       d.0,
       d.1,
       c.near_all-n.auto.disc ∙ l.invariant.2,
@@ -73,8 +73,8 @@ shape_of-disc c = c.loop-r.invariant.2
 pub returns : goal.returns
 returns c = let a = c.args in
     let l = c.loop-r in
-    let G : ℕ → Type 0 = Row-good a.w a.h a.q.0 a.t a.low.now a.up.now a.rings.now in
-    let H : ℕ → Type 0 = Row-held a.w a.low.now a.up.now a.below.now a.rings.now in record {
+    let G : ℕ → Type 0 = RowGood a.w a.h a.q.0 a.t a.low.now a.up.now a.rings.now in
+    let H : ℕ → Type 0 = RowHeld a.w a.low.now a.up.now a.below.now a.rings.now in record {
       row_good = (λ e. rows_more G l.from a.h l.invariant.5 (λ y lo hi. bare_sound a.w a.h a.t y _ a.low.now a.up.now a.rings.now (c.bare.ensures e y lo hi)));
       row_held = (λ e. rows_more H l.from a.h (l.invariant.6 e) (λ y lo hi. bare_held a.w y a.low.now a.up.now a.below.now a.rings.now (l.invariant.4 y lo (omega arith))));
     }

@@ -4,13 +4,13 @@ use mathlib.Core.Path.{◌≡◌}
 use Prim.Native.Nat.{ℕ, ◌≤◌, ◌<◌, ◌-◌}
 use mathlib.Core.Bool.{true}
 use lib.ListN.{length}
-use Rattle.quick.specs.Sureness.{Shadeless, Row-good, Row-held}
+use Rattle.quick.specs.Sureness.{Shadeless, RowGood, RowHeld}
 use Rattle.quick.proofs.pair.rows.Given as goal
 
 abbrev pub invariant-loop-r : goal.invariant-loop-r
 invariant-loop-r l = (l.from ≤ l.r) × (l.r ≤ l.h) × (length l.disc ≡ length l.initial.disc) × (Ready l.w l.h l.disc × (l.drawn ≡ true → Drawn l.w l.h (packed l.w l.low) l.disc))
-    × ((y : ℕ) → l.from ≤ y → y < l.r → Shadeless l.w l.low l.up y) × ((y : ℕ) → y < l.from → Row-good l.w l.h l.q.0 l.t l.low l.up l.rings y)
-    × (l.held ≡ true → (y : ℕ) → y < l.from → Row-held l.w l.low l.up l.below l.rings y)
+    × ((y : ℕ) → l.from ≤ y → y < l.r → Shadeless l.w l.low l.up y) × ((y : ℕ) → y < l.from → RowGood l.w l.h l.q.0 l.t l.low l.up l.rings y)
+    × (l.held ≡ true → (y : ℕ) → y < l.from → RowHeld l.w l.low l.up l.below l.rings y)
 
 abbrev pub decreases-loop-r : goal.decreases-loop-r
 decreases-loop-r l = l.h - l.r

@@ -30,11 +30,11 @@ overflow_add-y-in-loop-y c = omega (arith, c.requires.0.h_max)
 
 pub loop-y-preserved : goal.loop-y-preserved
 loop-y-preserved c = let pre = c.requires in (
-      omega arith,
-      c.put.auto.l ∙ c.loop-y.invariant.1,
-      read_more _ _ _ pre.0 _ pre.3 _ (column c.read.result) _ _ (omega arith)
-          (row_column _ _ _ _ _ pre.0 pre.1 pre.2 (omega arith) (column c.read.result) c.read.ensures) c.put.ensures c.loop-y.invariant.2,
-    )
+  omega arith,
+  c.put.auto.l ∙ c.loop-y.invariant.1,
+  read_more _ _ _ pre.0 _ pre.3 _ (column c.read.result) _ _ (omega arith)
+      (row_column _ _ _ _ _ pre.0 pre.1 pre.2 (omega arith) (column c.read.result) c.read.ensures) c.put.ensures c.loop-y.invariant.2,
+)
 
 pub shape_of-out : goal.shape_of-out
 shape_of-out c = c.loop-y.invariant.1

@@ -65,8 +65,7 @@ loop-q-preserved c = let loop = c.loop-q in
     let args = c.args in
     let lq = c.loop-q-test.true in
     let lk = c.last-k.ensures.1 in
-    let k = c.last-k.result in
-    (
+    let k = c.last-k.result in (
       omega (arith, c.before-q.ensures),
       c.visit.ensures.planes,
       falls_then c.visit.new.ring loop.ring args.ring.now c.visit.new.marks loop.marks args.marks.now ((args.r + 33) * 5 + loop.q) loop.invariant.2 c.visit.ensures.falls,

@@ -35,8 +35,7 @@ loop-r-smaller-then-any-2 c = omega (arith, c.loop-r-test.true)
 pub loop-r-preserved-then-any-2 : goal.loop-r-preserved-then-any-2
 loop-r-preserved-then-any-2 c = let loop = c.loop-r in
     let args = c.args in
-    let more = c.loop-r-test.true in
-    (
+    let more = c.loop-r-test.true in (
       omega (arith, more),
       c.settle_row.ensures.planes,
       swept_back args.up args.h loop.r loop.behind loop.ring args.ring.now loop.marks loop.invariant.2 more c.in_turn-y.result c.in_turn-y.ensures c.row_behind.result
@@ -51,8 +50,7 @@ loop-r-smaller-else-any-2 c = omega (arith, c.loop-r-test.true)
 pub loop-r-preserved-else-any-2 : goal.loop-r-preserved-else-any-2
 loop-r-preserved-else-any-2 c = let loop = c.loop-r in
     let args = c.args in
-    let more = c.loop-r-test.true in
-    (
+    let more = c.loop-r-test.true in (
       omega (arith, more),
       c.settle_row.ensures.planes,
       swept_on args.up args.h loop.r loop.behind loop.ring args.ring.now loop.marks loop.invariant.2 more c.in_turn-y.result c.in_turn-y.ensures c.row_behind.result
@@ -68,8 +66,7 @@ loop-r-smaller c = omega (arith, c.loop-r-test.true)
 pub loop-r-preserved : goal.loop-r-preserved
 loop-r-preserved c = let loop = c.loop-r in
     let args = c.args in
-    let more = c.loop-r-test.true in
-    (
+    let more = c.loop-r-test.true in (
       omega (arith, more),
       loop.invariant.1,
       swept_still args.up args.h loop.r loop.behind loop.ring args.ring.now loop.marks loop.invariant.2 more c.in_turn-y.result c.in_turn-y.ensures
@@ -92,9 +89,9 @@ returns c = let loop = c.loop-r in
     let args = c.args in record {
       planes = loop.invariant.1;
       ends = (
-          swept_all args.w args.up args.h loop.r loop.behind loop.ring args.ring.now loop.marks loop.invariant.1.marks_framed loop.invariant.1.sizes
-              (omega (arith, c.loop-r-test.false)) loop.invariant.2,
-          loop.invariant.2.fell,
-        );
+        swept_all args.w args.up args.h loop.r loop.behind loop.ring args.ring.now loop.marks loop.invariant.1.marks_framed loop.invariant.1.sizes
+            (omega (arith, c.loop-r-test.false)) loop.invariant.2,
+        loop.invariant.2.fell,
+      );
       onward = loop.invariant.3;
     }

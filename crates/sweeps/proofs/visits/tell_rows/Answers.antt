@@ -11,21 +11,21 @@ tell-requires c = (omega (arith, c.requires.0), omega (arith, c.requires.1), ome
 
 pub tell-requires-2 : goal.tell-requires-2
 tell-requires-2 c = (
-      omega (arith, c.requires.0, c.tell.auto.marks),
-      omega (arith, c.requires.1, c.tell.auto.got),
-      omega (arith, c.requires.2),
-      omega (arith, c.requires.3),
-      (λ k M. omega (arith, c.requires.7 k M, c.tell.auto.ring)),
-    )
+  omega (arith, c.requires.0, c.tell.auto.marks),
+  omega (arith, c.requires.1, c.tell.auto.got),
+  omega (arith, c.requires.2),
+  omega (arith, c.requires.3),
+  (λ k M. omega (arith, c.requires.7 k M, c.tell.auto.ring)),
+)
 
 pub tell-requires-3 : goal.tell-requires-3
 tell-requires-3 c = (
-      omega (arith, c.requires.0, c.tell.auto.marks, c.tell-2.auto.marks),
-      omega (arith, c.requires.1, c.tell.auto.got, c.tell-2.auto.got),
-      omega (arith, c.requires.2),
-      omega (arith, c.requires.3, c.requires.4),
-      (λ k M. omega (arith, c.requires.8 k M, c.tell.auto.ring, c.tell-2.auto.ring)),
-    )
+  omega (arith, c.requires.0, c.tell.auto.marks, c.tell-2.auto.marks),
+  omega (arith, c.requires.1, c.tell.auto.got, c.tell-2.auto.got),
+  omega (arith, c.requires.2),
+  omega (arith, c.requires.3, c.requires.4),
+  (λ k M. omega (arith, c.requires.8 k M, c.tell.auto.ring, c.tell-2.auto.ring)),
+)
 
 pub returns : goal.returns
 returns c = λ at B X Y Z.

@@ -46,9 +46,9 @@ tell_rows-requires-3 c = let K = c.requires in
 
 pub clear_bit-requires : goal.clear_bit-requires
 clear_bit-requires c = (
-      omega (arith, c.requires.planes.marks_long, c.tell_rows.auto.marks, c.tell_rows-2.auto.marks, c.tell_rows-3.auto.marks, c.requires, c.requires.planes.sizes.h_max),
-      c.requires.bit_inside,
-    )
+  omega (arith, c.requires.planes.marks_long, c.tell_rows.auto.marks, c.tell_rows-2.auto.marks, c.tell_rows-3.auto.marks, c.requires, c.requires.planes.sizes.h_max),
+  c.requires.bit_inside,
+)
 
 pub shape_of-ring : goal.shape_of-ring
 shape_of-ring c = c.tell_rows-3.auto.ring ∙ c.tell_rows-2.auto.ring ∙ c.tell_rows.auto.ring

@@ -29,12 +29,12 @@ overflow_mul-y c = omega (arith, plane_row c.args.y c.args.w c.requires.sizes.4 
 
 pub number_row-requires : goal.number_row-requires
 number_row-requires c = (
-      λ x e.
-          let l = column_in _ x e in
-          c.requires.inside x l (fresh_in _ _ _ (sym (c.fresh_row-now.ensures x l) ∙ e)),
-      plane_row c.args.y c.args.w c.requires.sizes.4 c.requires.sizes.5,
-      c.requires.sizes.6,
-    )
+  λ x e.
+      let l = column_in _ x e in
+      c.requires.inside x l (fresh_in _ _ _ (sym (c.fresh_row-now.ensures x l) ∙ e)),
+  plane_row c.args.y c.args.w c.requires.sizes.4 c.requires.sizes.5,
+  c.requires.sizes.6,
+)
 
 pub returns : goal.returns
 returns c = row_waved _ _ _ _ _ _ _ _ _ (column c.row-own.result) c.row-own.ensures (column c.fresh_row-now.result) (column c.but_not-rest.result) (column c.either-all.result)

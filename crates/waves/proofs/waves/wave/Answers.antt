@@ -18,16 +18,16 @@ bounds-ahead-0 c = omega (arith, c.requires.planes.aheads.long)
 
 pub loop-y-init : goal.loop-y-init
 loop-y-init c = let A = c.requires.planes in (
-      (A.aheads.on 0 (omega arith)).1,
-      omega arith,
-      refl,
-      refl,
-      refl,
-      refl,
-      wave_start _ _ _ _ _ _ _ _ _ A.sizes c.requires.room.0 A.left_room A.got_room _ refl,
-      λ e j l. fresh_none _ _ j (none_before _ _ j _ _ A.sizes A.left_room l),
-      λ e j l. ap (λ (s : Bool). s && not (fresh c.args.from.now c.args.left.now j)) (none_before _ _ j _ _ A.sizes A.left_room l),
-    )
+  (A.aheads.on 0 (omega arith)).1,
+  omega arith,
+  refl,
+  refl,
+  refl,
+  refl,
+  wave_start _ _ _ _ _ _ _ _ _ A.sizes c.requires.room.0 A.left_room A.got_room _ refl,
+  λ e j l. fresh_none _ _ j (none_before _ _ j _ _ A.sizes A.left_room l),
+  λ e j l. ap (λ (s : Bool). s && not (fresh c.args.from.now c.args.left.now j)) (none_before _ _ j _ _ A.sizes A.left_room l),
+)
 
 pub wave_row-gone-requires : goal.wave_row-gone-requires
 wave_row-gone-requires c = let A = c.requires.planes in

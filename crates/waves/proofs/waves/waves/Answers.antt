@@ -16,9 +16,9 @@ overflow_add-n c = omega (arith, c.requires.steps.2)
 
 pub wave-a-requires : goal.wave-a-requires
 wave-a-requires c = record {
-      planes = c.loop-n.invariant.2;
-      room = (c.loop-n.invariant.4, c.requires.steps.3);
-    }
+  planes = c.loop-n.invariant.2;
+  room = (c.loop-n.invariant.4, c.requires.steps.3);
+}
 
 pub shape_of-ring-then-a-eq0 : goal.shape_of-ring-then-a-eq0
 shape_of-ring-then-a-eq0 c = c.wave-a.ensures.planes.ring_long ∙ sym c.requires.planes.ring_long
@@ -42,16 +42,16 @@ returns-then-a-eq0 c = let A = c.loop-n.invariant.2 in
       planes = afloat_old _ _ _ _ _ _ _ _ _ _ _ _ A S c.wave-a.auto.left c.wave-a.auto.got c.wave-a.auto.ring B.front_ready.long;
       room = (c.loop-n.invariant.3, c.wave-a.ensures.room);
       made = λ o s W. (
-            λ p. absurd (omega arith),
-            λ e. record {
-              number = c.loop-n.n + 1;
-              front = _;
-              some_wave = omega arith;
-              most = omega (arith, c.loop-n-test.true);
-              waved = waved_on _ _ c.loop-n.n _ _ _ _ _ _ _ _ _ _ _ refl refl A S B o s (c.loop-n.invariant.5 o s W);
-              still = c.wave-a.ensures.still c.if-a-eq0.true;
-            },
-          );
+        λ p. absurd (omega arith),
+        λ e. record {
+          number = c.loop-n.n + 1;
+          front = _;
+          some_wave = omega arith;
+          most = omega (arith, c.loop-n-test.true);
+          waved = waved_on _ _ c.loop-n.n _ _ _ _ _ _ _ _ _ _ _ refl refl A S B o s (c.loop-n.invariant.5 o s W);
+          still = c.wave-a.ensures.still c.if-a-eq0.true;
+        },
+      );
       most = omega arith;
     }
 
@@ -95,9 +95,9 @@ overflow_cast-n-in-loop-n c = omega (arith, c.requires.steps.2, c.loop-n-test.tr
 
 pub wave-b-requires : goal.wave-b-requires
 wave-b-requires c = record {
-      planes = c.wave-a.ensures.planes;
-      room = (c.loop-n.invariant.3, c.requires.steps.3);
-    }
+  planes = c.wave-a.ensures.planes;
+  room = (c.loop-n.invariant.3, c.requires.steps.3);
+}
 
 pub shape_of-ring-then-b-eq0 : goal.shape_of-ring-then-b-eq0
 shape_of-ring-then-b-eq0 c = c.wave-b.ensures.planes.ring_long ∙ sym c.requires.planes.ring_long
@@ -123,17 +123,17 @@ returns-then-b-eq0 c = let A = c.loop-n.invariant.2 in
       planes = D;
       room = (c.wave-b.ensures.room, c.wave-a.ensures.room);
       made = λ o s W. (
-            λ p. absurd (omega arith),
-            λ e. record {
-              number = c.loop-n.n + 2;
-              front = _;
-              some_wave = omega arith;
-              most = omega (arith, c.loop-n-test.true);
-              waved = waved_on _ _ (c.loop-n.n + 1) _ _ _ _ _ _ _ _ _ _ _ (omega arith) (omega arith) B T D o s
-                  (waved_on _ _ c.loop-n.n _ _ _ _ _ _ _ _ _ _ _ refl refl A S B o s (c.loop-n.invariant.5 o s W));
-              still = c.wave-b.ensures.still c.if-b-eq0.true;
-            },
-          );
+        λ p. absurd (omega arith),
+        λ e. record {
+          number = c.loop-n.n + 2;
+          front = _;
+          some_wave = omega arith;
+          most = omega (arith, c.loop-n-test.true);
+          waved = waved_on _ _ (c.loop-n.n + 1) _ _ _ _ _ _ _ _ _ _ _ (omega arith) (omega arith) B T D o s
+              (waved_on _ _ c.loop-n.n _ _ _ _ _ _ _ _ _ _ _ refl refl A S B o s (c.loop-n.invariant.5 o s W));
+          still = c.wave-b.ensures.still c.if-b-eq0.true;
+        },
+      );
       most = omega arith;
     }
 
@@ -162,12 +162,12 @@ returns-then-b-least c = let A = c.loop-n.invariant.2 in
       planes = D;
       room = (c.wave-b.ensures.room, c.wave-a.ensures.room);
       made = λ o s W. (
-            λ p. waved_on _ _ (c.loop-n.n + 1) _ _ _ _ _ _ _ _ _ _ _ (omega arith) (omega arith) B c.wave-b.ensures.waving D o s
-                (waved_on _ _ c.loop-n.n _ _ _ _ _ _ _ _ _ _ _ refl refl A c.wave-a.ensures.waving B o s (c.loop-n.invariant.5 o s W)),
-            λ e. absurd (omega arith),
-          );
+        λ p. waved_on _ _ (c.loop-n.n + 1) _ _ _ _ _ _ _ _ _ _ _ (omega arith) (omega arith) B c.wave-b.ensures.waving D o s
+            (waved_on _ _ c.loop-n.n _ _ _ _ _ _ _ _ _ _ _ refl refl A c.wave-a.ensures.waving B o s (c.loop-n.invariant.5 o s W)),
+        λ e. absurd (omega arith),
+      );
       most = omega
-              (arith, c.loop-n-test.true);
+          (arith, c.loop-n-test.true);
     }
 
 pub loop-n-smaller : goal.loop-n-smaller
@@ -203,8 +203,8 @@ shape_of-got c = c.loop-n.invariant.2.got_room.ready.long ∙ sym c.requires.pla
 
 pub returns : goal.returns
 returns c = record {
-      planes = c.loop-n.invariant.2;
-      room = (c.loop-n.invariant.3, c.loop-n.invariant.4);
-      made = λ o s W. (λ p. c.loop-n.invariant.5 o s W, λ e. absurd (omega (arith, c.loop-n.invariant.0)));
-      most = c.loop-n.invariant.1;
-    }
+  planes = c.loop-n.invariant.2;
+  room = (c.loop-n.invariant.3, c.loop-n.invariant.4);
+  made = λ o s W. (λ p. c.loop-n.invariant.5 o s W, λ e. absurd (omega (arith, c.loop-n.invariant.0)));
+  most = c.loop-n.invariant.1;
+}

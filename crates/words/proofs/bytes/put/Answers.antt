@@ -17,10 +17,10 @@ loop-k-smaller c = omega arith
 
 pub loop-k-preserved : goal.loop-k-preserved
 loop-k-preserved c = (
-      omega arith,
-      put_more c.args.x c.args.at c.loop-k.k c.low.result c.loop-k.out c.args.out.now (omega arith) (omega (arith, c.loop-k.invariant.1.long)) c.low.ensures
-          c.loop-k.invariant.1,
-    )
+  omega arith,
+  put_more c.args.x c.args.at c.loop-k.k c.low.result c.loop-k.out c.args.out.now (omega arith) (omega (arith, c.loop-k.invariant.1.long)) c.low.ensures
+      c.loop-k.invariant.1,
+)
 
 pub shape_of-out : goal.shape_of-out
 shape_of-out c = c.loop-k.invariant.1.long
