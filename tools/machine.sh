@@ -64,12 +64,8 @@ tools_for() {
     need "qemu-$1" qemu-user
 }
 
-# find_kit: sets kit, the folder of the proof tools for this machine, with bin/ and toolchain/bin/
-find_kit() {
-    local home
-    home=${RATTLE_HOME:-$(dirname "$(dirname "$(readlink -f "$(command -v rt)")")")}
-    kit=$home/on/$machine
-}
+# find_kit: sets kit, the folder of the proof tools, with bin/ and toolchain/bin/
+find_kit() { kit=$(dirname "$(dirname "$(readlink -f "$(command -v rt)")")"); }
 
 # ---- The library ----
 
@@ -92,23 +88,35 @@ library_is_fresh() { is_fresh target/staticlib/stamp "$library"; }
 bring_library() {
     command -v rt >/dev/null || { [ -f "$library" ] && return; } || die "$library is missing, and so is rt, which builds it"
     if library_is_fresh; then return; fi
-    prove_below
+    prove_library
     build_library
 }
 
-# The crates that the library leans on.
-crates_below() { sed -n 's/^kitegimlet: *//p' crates.txt; }
+# What .ci/run writes once `rt ci` has passed. proved_by_ci: whether all stands as that left it, the libraries too, which it gives no stamp.
+note_proved() { mkdir -p target && sources_sum >target/proved; }
+proved_by_ci() {
+    [ -f target/proved ] && [ "$(cat target/proved)" = "$(sources_sum)" ] && [ -d crates/rules/out/rlib/rules.rlib ] &&
+        ! compgen -G 'crates/*/out/rlib/stamp' >/dev/null
+}
 
-# Proves them, several at a time.
-prove_below() {
+# Proves the library from nothing, over the crates below it, which `rt check` proves where `rt ci` has not.
+prove_library() {
     echo 'proving and building the library: some minutes the first time' >&2
-    # shellcheck disable=SC2046  # a list of names
-    logged target/staticlib/log rt check $(crates_below)
+    proved_by_ci || logged target/staticlib/log env -C crates/kitegimlet rt check
+    rm -rf target/staticlib/checked
+    logged target/staticlib/log tools/rattle check kitegimlet --cpu=x86-64 --jobs 2 -o "$PWD/target/staticlib/checked"
+    grep '^logic=' target/staticlib/log
+}
+
+# compile TOOLS ARCHIVE: makes the archive of what was proved, for every processor of the kind, with the kit's tools or others
+compile() {
+    logged "${2%.a}.log" tools/rattle build kitegimlet --cpu=x86-64 --crate-checked "$PWD/target/staticlib/checked" \
+        --toolchain "$1" -o "$PWD/$2"
 }
 
 build_library() {
-    logged target/staticlib/log rt staticlib kitegimlet
-    grep '^logic=' target/staticlib/log
+    find_kit
+    compile "$kit/toolchain" "$library"
     stamp "$library" >target/staticlib/stamp
 }
 
