@@ -1,7 +1,7 @@
 # shellcheck shell=bash disable=SC2034  # what is set here, those who source it use
 # What the scripts need of this machine: the library brought up to date, compilers, emulators, the kit's tools.
 #
-# Sourced by cli/build, ports/build, bench/run, tests/run, tests/sanitized and tests/ports/run, at the top of the repository. Programs are
+# Sourced by .ci/run, cli/build, ports/build, bench/run, tests/run, tests/sanitized and tests/ports/run, at the top of the repository. Programs are
 # built for x86_64, which the proved library is code for, or for aarch64, which a port is code for. On a machine of that kind they run as
 # they are, on the other under qemu-user. What is missing is installed with apt-get.
 
@@ -92,12 +92,17 @@ bring_library() {
     build_library
 }
 
-# What .ci/run writes once `rt ci` has passed. proved_by_ci: whether all stands as that left it, the libraries too, which it gives no stamp.
+# What .ci/run notes once `rt ci` has passed, and whether all stands as that left it, also the libraries, to which it gives no stamp.
 note_proved() { mkdir -p target && sources_sum >target/proved; }
 proved_by_ci() {
-    [ -f target/proved ] && [ "$(cat target/proved)" = "$(sources_sum)" ] && [ -d crates/rules/out/rlib/rules.rlib ] &&
-        ! compgen -G 'crates/*/out/rlib/stamp' >/dev/null
+    local name
+    [ -f target/proved ] && [ "$(cat target/proved)" = "$(sources_sum)" ] || return
+    if compgen -G 'crates/*/out/rlib/stamp' >/dev/null; then return 1; fi
+    for name in $(crates_below); do [ -d "crates/$name/out/rlib/$name.rlib" ] || return; done
 }
+
+# The crates that the library leans on.
+crates_below() { sed -n 's/^kitegimlet staticlib: *//p' crates.txt; }
 
 # Proves the library from nothing, over the crates below it, which `rt check` proves where `rt ci` has not.
 prove_library() {
