@@ -125,6 +125,12 @@ build_library() {
     stamp "$library" >target/staticlib/stamp
 }
 
+# Proves and builds the report program, crates/report/out/report, where `rt ci` has not.
+bring_report() {
+    if proved_by_ci && [ -x crates/report/out/report ]; then return; fi
+    logged target/report.log env -C crates/report rt run </dev/null
+}
+
 # logged LOG COMMAND..: what it says goes to the log, whose end is shown where it fails
 logged() {
     mkdir -p "$(dirname "$1")"
