@@ -10,7 +10,7 @@ use Rattle.std.proofs.Math.Nat.{zero-add}
 use native.Mathlib.Omega.{arith}
 use Rattle.std.proofs.Math.Dec.{eqb}
 use borrow.Author.Tests.{eqb-true, eqb-false, eq-eqb, lt-ltb, le-ltb}
-use Rattle.rules.specs.Tools.{count, each, Found, nothing, found, first}
+use Rattle.rules.specs.Tools.{count, Found, nothing, found, first}
 use Rattle.rules.specs.Images.{Plane, Stack, Rings}
 use Rattle.rules.specs.Planning.{shadow, seeds, near, reached, touch, grown}
 use Rattle.rules.specs.Posts.{left_by, gone_down, plane_of, listed, spared, scanned, posts_below, posts_from, stack_of}

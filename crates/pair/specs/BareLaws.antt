@@ -1,8 +1,8 @@
 -- Laws of rings set back to 0, row by row.
-use Rattle.std.specs.Prelude.{◌≡◌, refl, Bool, true, false, cond, List, [], ◌∷◌, ℕ, ◌+◌, ◌-◌, ◌*◌, ◌/◌, ◌%◌, ◌<◌, ◌≤◌, ltb, length, get_or, set}
-use Rattle.std.proofs.Common.{sym, ap, subst, ◌∙◌, div-lt_iff_lt-mul, le-div_iff_mul-le, mul-le-mul_right, arith, ltb-false, get_or-set_same, get_or-set_other}
+use Rattle.std.specs.Prelude.{◌≡◌, Bool, true, false, List, ℕ, ◌+◌, ◌-◌, ◌*◌, ◌/◌, ◌%◌, ◌<◌, ◌≤◌, ltb, length, get_or, set}
+use Rattle.std.proofs.Common.{sym, subst, ◌∙◌, div-lt_iff_lt-mul, le-div_iff_mul-le, mul-le-mul_right, arith, ltb-false, get_or-set_same, get_or-set_other}
 use Rattle.std.proofs.Math.Decide.{dec_lt, ℕ_discrete}
-use Rattle.laws.specs.Tests.{split, clash}
+use Rattle.laws.specs.Tests.{split}
 use Rattle.words.specs.Words.{word_bit}
 use Rattle.planes.specs.PlaneLaws.{pixel_row, row_fits, row_next, seen_is, seen_at, row_bit_lem, framed_row}
 use Rattle.planes.specs.TouchLaws.{row_out}

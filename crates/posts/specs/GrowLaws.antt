@@ -1,7 +1,7 @@
 -- Laws of what a post takes away: a row that is looked at, and where no row can change any more.
 use Rattle.std.specs.Prelude.{◌≡◌, Bool, true, false, not, ◌&&◌, ◌||◌, List, ◌⊎◌, ℕ, min, max, ◌+◌, ◌-◌, ◌*◌, ◌/◌, ◌%◌, ◌<◌, ◌≤◌, leb, ltb, length, get_or}
 use Rattle.std.proofs.Math.Path.{refl, ap}
-use Rattle.std.proofs.Common.{sym, ap₂, subst, ◌∙◌, inl, inr, ⊎_elim, div-add-mod', mul-le-mul}
+use Rattle.std.proofs.Common.{sym, subst, ◌∙◌, inl, inr, ⊎_elim, div-add-mod'}
 use native.Mathlib.Omega.{arith}
 use Rattle.std.proofs.Math.Decide.{dec_lt, dec_le, ℕ_discrete}
 use borrow.Author.Tests.{lt-ltb, le-ltb, ltb-true, ltb-false, le-leb, leb-true}
@@ -9,12 +9,12 @@ use Rattle.std.proofs.Math.Arith.{digits_div, digits_mod}
 use Rattle.rules.specs.Reach.{square, apart, most_bound}
 use Rattle.rules.specs.Tools.{count}
 use Rattle.laws.specs.Discs.{HalfWidth, Halves, square_small}
-use Rattle.laws.specs.Tests.{split, clash, bool_eq, and_l, and_r, and_in, and_true, or_l, or_r, or_out, or_false, not_in, not_out, count_mono, count_more}
-use Rattle.words.specs.Words.{word_bit, Within}
+use Rattle.laws.specs.Tests.{split, clash, bool_eq, and_l, and_r, and_in, or_l, or_out, not_in, not_out, count_mono, count_more}
+use Rattle.words.specs.Words.{word_bit}
 use Rattle.planes.specs.Scratch.{spot}
 use Rattle.pair.specs.Found.{Empty}
 use Rattle.posts.specs.TwoLaws.{WipedTo}
-use Rattle.posts.specs.Taking.{Next, Spreads, Beside, Columns, Looked, disc_bit, Taking, Ahead, ClosedBut, Closed}
+use Rattle.posts.specs.Taking.{Beside, Columns, Looked, disc_bit, Taking, Ahead, ClosedBut, Closed}
 
 -- the disc ---------------------------------------------------------------------------------------------------------------
 

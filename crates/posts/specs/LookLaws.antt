@@ -1,11 +1,11 @@
 -- Laws of looking at two words of a row: nothing free, nothing joined, or something got.
 use Rattle.std.specs.Prelude.{◌≡◌, refl, Bool, true, false, not, ◌&&◌, ◌||◌, List, ℕ, ◌+◌, ◌-◌, ◌*◌, ◌/◌, ◌%◌, ◌<◌, ◌≤◌, leb, ltb}
-use Rattle.std.proofs.Common.{sym, ap, ap₂, subst, ◌∙◌, ⊎_elim, div-add-mod', arith, lt-ltb, ltb-true}
+use Rattle.std.proofs.Common.{sym, ap, ap₂, ◌∙◌, ⊎_elim, div-add-mod', arith, lt-ltb, ltb-true}
 use Rattle.std.proofs.Math.Decide.{dec_lt, ℕ_discrete}
 use Rattle.std.proofs.Math.Arith.{digits_div, digits_mod}
-use Rattle.laws.specs.Tests.{split, clash, and_l, and_r, and_in, and_true, or_l, or_r, or_out, or_cases, or_false, not_in, not_out}
+use Rattle.laws.specs.Tests.{clash, and_l, and_r, and_in, and_true, or_l, or_r, or_out, or_cases, or_false, not_out}
 use Rattle.words.specs.Words.{word_bit, beside, Within}
-use Rattle.posts.specs.Taking.{Next, Spreads, Along, Beside, Columns, two_of, three_of, Looked}
+use Rattle.posts.specs.Taking.{Next, Along, Beside, Columns, two_of, three_of, Looked}
 use Rattle.posts.specs.AlongLaws.{beside_in, beside_out}
 
 -- the two words from word i on, put back with s taken off, or joined with s

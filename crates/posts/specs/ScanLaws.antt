@@ -1,7 +1,7 @@
 -- Laws of the scan: a pixel set in a packed plane, and one post more.
 use Rattle.std.specs.Prelude.{◌≡◌, refl, true, ◌||◌, ℕ, zero, suc, ◌+◌, ◌-◌, ◌*◌, ◌/◌, ◌%◌, ◌^◌, ◌<◌, ◌≤◌, eqb, get_or, set}
 use Rattle.std.proofs.Math.Path.{sym, ap}
-use Rattle.std.proofs.Common.{ap₂, subst, ◌∙◌, zero-add, div-add-mod', mul_assoc, mul-le-mul, get_or-set_same, get_or-set_other}
+use Rattle.std.proofs.Common.{subst, ◌∙◌, zero-add, div-add-mod', mul_assoc, mul-le-mul, get_or-set_same, get_or-set_other}
 use Rattle.std.proofs.Math.Bool.{Bool, false}
 use mathlib.Core.List.{List, [], ◌∷◌}
 use Rattle.std.proofs.Math.Nat.{mod-lt}

@@ -1,5 +1,5 @@
 -- The scan of what remains of a plane.
-use Rattle.std.specs.Prelude.{◌≡◌, Bool, ◌||◌, List, ℕ, ◌*◌, ◌<◌, ◌≤◌, length}
+use Rattle.std.specs.Prelude.{◌≡◌, Bool, ◌||◌, List, ℕ, ◌*◌, ◌<◌, ◌≤◌}
 use Rattle.rules.specs.Images.{row_bytes}
 use Rattle.rules.specs.Posts.{scanned, listed}
 use Rattle.rules.specs.Tools.{count, each}

@@ -4,23 +4,23 @@ use Rattle.std.proofs.Math.Path.{refl, subst}
 use Rattle.std.proofs.Common.{sym, ap, ap₂, ◌∙◌, ⊎_elim, div-add-mod'}
 use native.Mathlib.Omega.{arith}
 use Rattle.std.proofs.Math.Decide.{dec_lt, dec_le, ℕ_discrete}
-use borrow.Author.Tests.{lt-ltb, le-ltb, ltb-true, ltb-false, le-leb, leb-true, eq-eqb, eqb-true, eqb-false, ne_eqb}
+use borrow.Author.Tests.{lt-ltb, le-ltb, ltb-true, le-leb, leb-true, eq-eqb, eqb-true, ne_eqb}
 use Rattle.std.proofs.Math.Arith.{digits_div, digits_mod, digits_lt}
 use Rattle.rules.specs.Demands.{Joined, start, onward}
 use Rattle.rules.specs.Images.{Plane}
 use Rattle.rules.specs.Planning.{near, touch, grown}
 use Rattle.rules.specs.Posts.{plane_of, spared}
-use Rattle.rules.specs.Reach.{square, apart, distance²}
+use Rattle.rules.specs.Reach.{square, apart}
 use Rattle.laws.specs.Growing.{ring_joined, ring_fewest}
-use Rattle.laws.specs.Neighbours.{Touching, touch_in, touch_out, near_is}
+use Rattle.laws.specs.Neighbours.{touch_in, touch_out, near_is}
 use Rattle.laws.specs.PostLayers.{spared_is}
 use Rattle.laws.specs.Tests.{split, clash, bool_eq, and_l, and_r, and_in, or_l, or_r, or_out, not_in, not_out, some_in, some_out}
 use Rattle.words.specs.Words.{word_bit}
-use Rattle.planes.specs.Scratch.{spot, Sizes, Pixel, Framed, Ready, seen}
+use Rattle.planes.specs.Scratch.{spot, Sizes, Framed, Ready, seen}
 use Rattle.planes.specs.PlaneLaws.{row_fits, pixel_row, seen_is, seen_pixel}
 use Rattle.pair.specs.Found.{Empty}
 use Rattle.sweeps.specs.Marks.{Cleared, Lit}
-use Rattle.posts.specs.Taking.{Next, Spreads, Beside, disc_bit, Taking, Ahead, Closed}
+use Rattle.posts.specs.Taking.{Spreads, Beside, disc_bit, Taking, Ahead, Closed}
 
 -- the post's own pixel ------------------------------------------------------------------------------------------------------
 

@@ -13,7 +13,7 @@ use Rattle.rules.specs.Images.{Plane, row_bytes}
 use Rattle.laws.specs.Tests.{split, and_l, and_r, and_false}
 use Rattle.image.specs.Rows.{packed, Clean}
 use Rattle.image.specs.Scratch.{bit_of}
-use Rattle.words.specs.Words.{word_bit, column, row_part}
+use Rattle.words.specs.Words.{word_bit, row_part}
 use Rattle.planes.specs.PlaneLaws.{seen_is, pixel_row, row_fits}
 use Rattle.planes.specs.Scratch.{spot, Sizes, Pixel, Ready, Drawn, RowPut}
 use Rattle.waves.specs.RowLaws.{put_bits, upto_row}

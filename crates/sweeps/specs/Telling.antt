@@ -1,5 +1,5 @@
 -- Telling, as the code does it: some pixels get a lower ring, each with a mark; and the rows that a sweep leaves behind.
-use Rattle.std.specs.Prelude.{◌≡◌, ℕ, ◌+◌, ◌-◌, ◌*◌, ◌<◌, ◌≤◌, Bool, true, false, ◌⊎◌, List, set, slice_index, slice_set}
+use Rattle.std.specs.Prelude.{◌≡◌, ℕ, ◌+◌, ◌-◌, ◌*◌, ◌<◌, ◌≤◌, Bool, true, false, ◌⊎◌, List, slice_index, slice_set}
 use Rattle.words.specs.Words.{word_bit, bit_of_word}
 use Rattle.sweeps.specs.Rings.{level, sum_by}
 use Rattle.sweeps.specs.Marks.{Lit}

@@ -1,6 +1,5 @@
 use Rattle.clean.specs.CallLaws.{lent, bare_top, seven, refuses, plan_seven, refuses_too, known, support_is, clean_size, cleans}
 use native.Mathlib.Omega.{arith}
-use borrow.Author.Rules.{rules}
 use Rattle.clean.proofs.clean.Goals as goal
 
 pub with_part_row-requires : goal.with_part_row-requires

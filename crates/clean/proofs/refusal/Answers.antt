@@ -1,7 +1,6 @@
 use mathlib.Core.Path.{sym, ◌∙◌}
 use Rattle.clean.specs.CallLaws.{early_settings, early_gap, early_part, early_clean, early_none}
 use native.Mathlib.Omega.{arith}
-use borrow.Author.Rules.{rules}
 use Rattle.clean.proofs.refusal.Goals as goal
 
 pub returns-then-a-ne0 : goal.returns-then-a-ne0

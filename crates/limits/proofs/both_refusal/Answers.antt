@@ -2,7 +2,6 @@ use mathlib.Core.Path.{sym, ap, ◌∙◌}
 use mathlib.Core.Bool.{cond}
 use Prim.Native.Nat.{ℕ}
 use lib.ListN.{length}
-use borrow.Author.Rules.{rules}
 use Rattle.rules.specs.Images.{padding_set}
 use Rattle.rules.specs.Calls.{both_cases}
 use Rattle.laws.specs.Limits.{ranged}

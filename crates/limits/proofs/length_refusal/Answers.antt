@@ -1,5 +1,4 @@
 use mathlib.Core.Path.{sym, ◌∙◌}
-use borrow.Author.Rules.{rules}
 use Rattle.laws.specs.StackTables.{lengths_in}
 use Rattle.limits.proofs.Lengths.{refused_4, refused_5, refused_6, same_stored}
 use Rattle.limits.proofs.length_refusal.Goals as goal

@@ -1,6 +1,5 @@
 use Rattle.limits.proofs.Padding.{power_small}
 use native.Mathlib.Omega.{arith}
-use borrow.Author.Rules.{rules}
 use Rattle.limits.proofs.pad_mask.Goals as goal
 
 pub overflow_sub-result : goal.overflow_sub-result

@@ -1,4 +1,3 @@
-use borrow.Author.Rules.{rules}
 use Rattle.limits.specs.Padding.{row_some, row_none}
 use Rattle.limits.proofs.padding_refusal.Goals as goal
 

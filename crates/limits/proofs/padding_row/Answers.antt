@@ -1,8 +1,5 @@
-use Prim.Native.Nat.{◌-◌, ◌≤◌}
-use mathlib.Core.Path.{◌≡◌, refl}
-use mathlib.Core.Bool.{false}
+use mathlib.Core.Path.{refl}
 use native.Mathlib.Omega.{arith}
-use borrow.Author.Rules.{rules}
 use Rattle.rules.specs.Tools.{some}
 use Rattle.rules.specs.Images.{row_bytes, padding_set}
 use Rattle.limits.proofs.Padding.{last_in, pad_hit, pad_more, pad_none, pad_whole}

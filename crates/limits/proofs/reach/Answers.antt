@@ -1,5 +1,4 @@
 use Rattle.limits.proofs.Settings.{reach_no, reach_yes, pitch_good}
-use borrow.Author.Rules.{rules}
 use Rattle.limits.proofs.reach.Goals as goal
 
 pub returns-then-k-ne0 : goal.returns-then-k-ne0

@@ -1,7 +1,6 @@
 use native.Mathlib.Nat.{div-le_self}
 use Rattle.rules.specs.Reach as rule
 use native.Mathlib.Omega.{arith}
-use borrow.Author.Rules.{rules}
 use Rattle.limits.proofs.reach_of.Goals as goal
 
 pub overflow_cast-result : goal.overflow_cast-result

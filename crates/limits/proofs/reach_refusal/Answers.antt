@@ -1,8 +1,6 @@
 use mathlib.Core.Path.{sym, ◌∙◌}
-use borrow.Author.Tests.{not-true, not-false}
 use Rattle.rules.specs.Calls.{reach_cases}
 use Rattle.limits.proofs.Settings.{pitch_some, refused_3, refused_0}
-use borrow.Author.Rules.{rules}
 use Rattle.limits.proofs.reach_refusal.Goals as goal
 
 pub returns-then-not-settable : goal.returns-then-not-settable

@@ -1,6 +1,5 @@
 use Rattle.rules.specs.Images.{row_bytes}
 use native.Mathlib.Omega.{arith}
-use borrow.Author.Rules.{rules}
 use Rattle.limits.proofs.row_bytes.Goals as goal
 
 pub returns : goal.returns

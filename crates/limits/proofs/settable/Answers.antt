@@ -1,7 +1,5 @@
 use mathlib.Core.Path.{sym, ◌∙◌}
-use borrow.Author.Tests.{not-true, not-false}
 use Rattle.rules.specs.Reach as rule
-use borrow.Author.Rules.{rules}
 use Rattle.limits.proofs.settable.Goals as goal
 
 pub returns-then-not-within : goal.returns-then-not-within

@@ -1,7 +1,5 @@
 use mathlib.Core.Path.{sym, ◌∙◌}
-use borrow.Author.Tests.{not-true, not-false}
 use Rattle.rules.specs.Calls.{setting_cases}
-use borrow.Author.Rules.{rules}
 use Rattle.limits.proofs.settings_refusal.Goals as goal
 
 pub returns-then-not-sized : goal.returns-then-not-sized

@@ -1,7 +1,5 @@
 use mathlib.Core.Path.{sym, ◌∙◌}
-use borrow.Author.Tests.{not-true, not-false}
 use Rattle.rules.specs.Images as images
-use borrow.Author.Rules.{rules}
 use Rattle.limits.proofs.sized.Goals as goal
 
 pub returns-then-not-within : goal.returns-then-not-within

@@ -4,7 +4,6 @@ use native.Mathlib.Nat.{mul-le-mul}
 use Rattle.rules.specs.Images.{stack_bytes}
 use Rattle.laws.specs.Limits.{ranged}
 use native.Mathlib.Omega.{arith}
-use borrow.Author.Rules.{rules}
 use Rattle.limits.proofs.stack_bytes.Goals as goal
 
 pub row_bytes-requires : goal.row_bytes-requires

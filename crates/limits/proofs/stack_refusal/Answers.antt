@@ -2,7 +2,6 @@ use mathlib.Core.Path.{refl, sym, ap, ◌∙◌}
 use mathlib.Core.Bool.{true, cond}
 use Prim.Native.Nat.{ℕ}
 use lib.ListN.{length}
-use borrow.Author.Rules.{rules}
 use Rattle.rules.specs.Images.{padding_set}
 use Rattle.laws.specs.Limits.{ranged}
 use Rattle.laws.specs.Refusals.{stops, goes_on}

@@ -1,6 +1,5 @@
 use mathlib.Core.Path.{refl}
 use mathlib.Core.Bool.{true}
-use borrow.Author.Rules.{rules}
 use Rattle.laws.specs.Limits.{ranged}
 use Rattle.limits.proofs.Lengths.{rows_fit}
 use Rattle.limits.proofs.Padding.{row_is}

@@ -1,5 +1,4 @@
 use mathlib.Core.Path.{sym, ◌∙◌}
-use borrow.Author.Rules.{rules}
 use Rattle.laws.specs.Padding.{refused_eight, refused_by_part}
 use Rattle.limits.proofs.with_rows.Goals as goal
 

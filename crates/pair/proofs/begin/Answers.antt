@@ -1,4 +1,3 @@
-use borrow.Author.Rules.{rules}
 use Rattle.pair.proofs.begin.Goals as goal
 
 pub returns-else-wanted : goal.returns-else-wanted

@@ -5,7 +5,6 @@ use Rattle.image.specs.Rows.{packed}
 use Rattle.rings.specs.ByteLaws.{row_bytes_lem}
 use Rattle.pair.specs.HangLaws.{hang_afloat, hang_waved, hang_rings, pair_apart, seeds_below, excused_by, spare_rooms, excused_rings}
 use native.Mathlib.Omega.{arith}
-use borrow.Author.Rules.{rules}
 use Rattle.pair.proofs.hanging.Goals as goal
 
 pub rings-requires : goal.rings-requires

@@ -1,9 +1,7 @@
 use mathlib.Core.Path.{◌∙◌, refl}
-use Rattle.laws.specs.Tests.{not_out}
 use Rattle.pair.specs.PairLaws.{support_packs, own_packs, bare_rings, no_shadow}
 use Rattle.pair.specs.HangLaws.{hang_packs, calm_packs}
 use native.Mathlib.Omega.{arith}
-use borrow.Author.Rules.{rules}
 use Rattle.pair.proofs.layer.Goals as goal
 
 pub begin-requires : goal.begin-requires

@@ -1,14 +1,10 @@
-use mathlib.Core.Path.{◌≡◌, subst}
+use mathlib.Core.Path.{◌≡◌}
 use mathlib.Core.Bool.{not, ◌&&◌, ◌||◌}
-use Prim.Native.Nat.{ℕ, ◌≤◌, ◌-◌}
-use lib.Bits.{bit_and}
-use lib.ListN.{length, get_or}
-use Rattle.image.specs.Bits.{or_none}
-use Rattle.image.specs.Filling.{Filling, filling_none, filling_more, filling_all}
+use Prim.Native.Nat.{◌≤◌, ◌-◌}
+use lib.ListN.{length}
+use Rattle.image.specs.Filling.{Filling}
 use Rattle.image.specs.Scratch.{bit_of}
-use Rattle.pair.specs.PairLaws.{NoneHangs, none_hangs, none_more, support_byte}
-use native.Mathlib.Omega.{arith}
-use borrow.Author.Rules.{rules}
+use Rattle.pair.specs.PairLaws.{NoneHangs}
 use Rattle.pair.proofs.support.Given as goal
 
 abbrev pub invariant-loop-i : goal.invariant-loop-i

@@ -3,7 +3,6 @@ use lib.ListN.{length}
 use Rattle.laws.specs.Tests.{clash}
 use Rattle.plan.specs.CallLaws.{planable, refuses, plans}
 use native.Mathlib.Omega.{arith}
-use borrow.Author.Rules.{rules}
 use Rattle.plan.proofs.fill.Goals as goal
 
 pub returns-then-k-ne0 : goal.returns-then-k-ne0

@@ -1,4 +1,3 @@
-use borrow.Author.Rules.{rules}
 use Rattle.plan.specs.CallLaws.{seven, refused_plans, done_plans}
 use Rattle.plan.proofs.plan.Goals as goal
 

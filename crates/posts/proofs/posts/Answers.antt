@@ -1,4 +1,3 @@
-use borrow.Author.Rules.{rules}
 use native.Mathlib.Omega.{arith}
 use Rattle.posts.specs.CallLaws.{range, radius_fine, lent, posts_done, seven, refuses}
 use Rattle.posts.proofs.posts.Goals as goal

@@ -5,7 +5,6 @@ use Rattle.rules.specs.Images.{padding_set}
 use Rattle.laws.specs.Limits.{ranged}
 use Rattle.laws.specs.StackTables.{posts_settings, posts_radius, posts_part, posts_length, posts_rest}
 use Rattle.posts.specs.CallLaws.{rows_fit}
-use borrow.Author.Rules.{rules}
 use Rattle.posts.proofs.refusal.Goals as goal
 
 pub returns-then-a-ne0 : goal.returns-then-a-ne0

@@ -3,7 +3,6 @@ use Rattle.rings.specs.NearRings.{near_in}
 use Rattle.rings.specs.FarLaws.{near_sub}
 use Rattle.rings.specs.EndLaws.{dropped_afloat, near_dropped, near_waved, near_apart, whole_still}
 use native.Mathlib.Omega.{arith}
-use borrow.Author.Rules.{rules}
 use Rattle.rings.proofs.farther.Goals as goal
 
 pub waves-r-requires : goal.waves-r-requires

@@ -2,7 +2,6 @@ use mathlib.Core.Path.{◌∙◌}
 use lib.Dec.{ltb}
 use lib.ListN.{get_or}
 use Rattle.rings.specs.EndLaws.{sweeps_on, kit_of, room_joined, room_none}
-use borrow.Author.Rules.{rules}
 use Rattle.rings.proofs.finish.Goals as goal
 
 pub settle-requires : goal.settle-requires

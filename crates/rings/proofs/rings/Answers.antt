@@ -4,7 +4,6 @@ use Rattle.rings.specs.NearRings.{near_in}
 use Rattle.rings.specs.FarLaws.{near_sub}
 use Rattle.rings.specs.EndLaws.{dropped_afloat, dropped_rooms, dropped_waved, near_dropped, near_apart, near_free, near_twice, whole_same, near_by_root, waves_few}
 use native.Mathlib.Omega.{arith}
-use borrow.Author.Rules.{rules}
 use Rattle.rings.proofs.rings.Goals as goal
 
 pub waves_first-requires : goal.waves_first-requires

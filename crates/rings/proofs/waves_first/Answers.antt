@@ -3,7 +3,6 @@ use Prim.Native.Nat.{◌<◌}
 use Rattle.waves.specs.WaveLaws.{waved_on}
 use Rattle.rings.specs.EndLaws.{landed_whole}
 use native.Mathlib.Omega.{arith}
-use borrow.Author.Rules.{rules}
 use Rattle.rings.proofs.waves_first.Goals as goal
 
 pub returns-then-a-eq0 : goal.returns-then-a-eq0

@@ -1,7 +1,6 @@
 use native.Mathlib.Nat.{mul-le-mul}
 use mathlib.Core.Path.{sym, ◌∙◌}
-use Prim.Native.Nat.{◌-◌, ◌≤◌}
-use Rattle.laws.specs.Discs.{HalvesTo, halves_none, halves_more, halves_all, square_small, some_row}
+use Rattle.laws.specs.Discs.{halves_none, halves_more, halves_all, square_small, some_row}
 use native.Mathlib.Omega.{arith}
 use Rattle.roots.proofs.all_halves.Goals as goal
 

@@ -1,8 +1,5 @@
-use native.Mathlib.Nat.{mul-le-mul}
-use mathlib.Core.Path.{sym, ◌∙◌}
 use Prim.Native.Nat.{◌-◌, ◌≤◌}
-use Rattle.laws.specs.Discs.{HalvesTo, halves_none, halves_more, halves_all, square_small, some_row}
-use native.Mathlib.Omega.{arith}
+use Rattle.laws.specs.Discs.{HalvesTo}
 use Rattle.roots.proofs.all_halves.Given as goal
 
 abbrev pub invariant-loop-d : goal.invariant-loop-d

@@ -2,7 +2,6 @@ use mathlib.Core.Path.{◌∙◌}
 use Prim.Native.Nat.{◌-◌, ◌*◌}
 use native.Mathlib.Omega.{arith}
 use Rattle.rules.specs.Reach.{square, half_width}
-use borrow.Author.Rules.{rules}
 use Rattle.roots.proofs.half_width.Goals as goal
 
 pub returns : goal.returns

@@ -2,9 +2,6 @@ use Rattle.roots.proofs.halves.Goals as goal
 -- The rule of the table, once over all of it: its entries are held against the 33 runs of roots, by computing.
 use Rattle.rules.specs.Tools.{joined_up}
 use Rattle.laws.specs.Discs.{table_roots}
-use borrow.Author.Rules.{rules}
-use Rattle.roots.proofs.halves.Statement.{statement}
-use Rattle.roots.proofs.halves.Tie as tie
 
 pub all_halves-requires : goal.all_halves-requires
 unfolding joined_up

@@ -3,9 +3,6 @@ use Rattle.roots.proofs.root.Goals as goal
 use mathlib.Core.Path.{◌∙◌}
 use Rattle.rules.specs.Tools.{joined_up}
 use Rattle.laws.specs.Discs.{table_rule}
-use borrow.Author.Rules.{rules}
-use Rattle.roots.proofs.root.Statement.{statement}
-use Rattle.roots.proofs.root.Tie as tie
 
 pub returns : goal.returns
 unfolding joined_up

@@ -1,10 +1,7 @@
-use mathlib.Core.Path.{◌≡◌, refl, ◌∙◌}
-use Prim.Native.Nat.{◌≤◌, ◌-◌}
-use lib.ListN.{length}
+use mathlib.Core.Path.{refl, ◌∙◌}
 use Rattle.words.specs.Words.{column}
-use Rattle.clean.specs.PackLaws.{Packing, pack_none, pack_more, pack_all, row_in, row_small}
+use Rattle.clean.specs.PackLaws.{pack_none, pack_more, pack_all, row_in, row_small}
 use native.Mathlib.Omega.{arith}
-use borrow.Author.Rules.{rules}
 use Rattle.clean.proofs.closing.pack.Goals as goal
 
 pub loop-y-init : goal.loop-y-init

@@ -1,10 +1,7 @@
-use mathlib.Core.Path.{◌≡◌, refl, ◌∙◌}
+use mathlib.Core.Path.{◌≡◌}
 use Prim.Native.Nat.{◌≤◌, ◌-◌}
 use lib.ListN.{length}
-use Rattle.words.specs.Words.{column}
-use Rattle.clean.specs.PackLaws.{Packing, pack_none, pack_more, pack_all, row_in, row_small}
-use native.Mathlib.Omega.{arith}
-use borrow.Author.Rules.{rules}
+use Rattle.clean.specs.PackLaws.{Packing}
 use Rattle.clean.proofs.closing.pack.Given as goal
 
 abbrev pub invariant-loop-y : goal.invariant-loop-y

@@ -1,7 +1,5 @@
 use mathlib.Core.Path.{◌≡◌, subst}
-use Prim.Native.Nat.{ℕ, ◌≤◌, ◌-◌}
-use lib.Dec.{ltb}
-use Rattle.words.specs.Words.{column}
+use Prim.Native.Nat.{ℕ}
 use Rattle.clean.specs.Far.{Ahead}
 use Rattle.clean.specs.FarLaws.{ahead_start}
 use native.Mathlib.Omega.{arith}

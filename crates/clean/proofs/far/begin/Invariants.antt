@@ -1,10 +1,8 @@
-use mathlib.Core.Path.{◌≡◌, subst}
+use mathlib.Core.Path.{◌≡◌}
 use Prim.Native.Nat.{ℕ, ◌≤◌, ◌-◌}
 use lib.Dec.{ltb}
 use Rattle.words.specs.Words.{column}
 use Rattle.clean.specs.Far.{Ahead}
-use Rattle.clean.specs.FarLaws.{ahead_start}
-use native.Mathlib.Omega.{arith}
 use Rattle.clean.proofs.far.begin.Given as goal
 
 abbrev pub invariant-loop-k : goal.invariant-loop-k

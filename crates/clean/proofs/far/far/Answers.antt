@@ -1,12 +1,6 @@
 use mathlib.Core.Path.{◌≡◌, refl, subst, ◌∙◌}
-use mathlib.Core.Bool.{not}
-use Prim.Native.Nat.{ℕ, ◌≤◌, ◌+◌, ◌-◌, ◌*◌}
-use lib.ListN.{length}
-use Rattle.rules.specs.Planning.{near}
+use Prim.Native.Nat.{ℕ, ◌+◌}
 use Rattle.words.specs.Words.{column}
-use Rattle.planes.specs.Scratch.{seen}
-use Rattle.waves.specs.Rows.{Upto}
-use Rattle.rings.specs.NearRings.{pixel_bits}
 use Rattle.rings.specs.ByteLaws.{read_start, read_more, read_all}
 use Rattle.clean.specs.Far.{Ahead}
 use native.Mathlib.Omega.{arith}

@@ -1,15 +1,12 @@
-use mathlib.Core.Path.{◌≡◌, refl, subst, ◌∙◌}
+use mathlib.Core.Path.{◌≡◌}
 use mathlib.Core.Bool.{not}
-use Prim.Native.Nat.{ℕ, ◌≤◌, ◌+◌, ◌-◌, ◌*◌}
+use Prim.Native.Nat.{◌≤◌, ◌+◌, ◌-◌, ◌*◌}
 use lib.ListN.{length}
 use Rattle.rules.specs.Planning.{near}
-use Rattle.words.specs.Words.{column}
 use Rattle.planes.specs.Scratch.{seen}
 use Rattle.waves.specs.Rows.{Upto}
 use Rattle.rings.specs.NearRings.{pixel_bits}
-use Rattle.rings.specs.ByteLaws.{read_start, read_more, read_all}
 use Rattle.clean.specs.Far.{Ahead}
-use native.Mathlib.Omega.{arith}
 use Rattle.clean.proofs.far.far.Given as goal
 
 abbrev pub invariant-loop-y : goal.invariant-loop-y

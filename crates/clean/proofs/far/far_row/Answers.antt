@@ -1,7 +1,6 @@
 use Rattle.words.specs.Words.{column}
 use Rattle.clean.specs.FarLaws.{disc_small, far_none, far_all, far_some}
 use native.Mathlib.Omega.{arith}
-use borrow.Author.Rules.{rules}
 use Rattle.clean.proofs.far.far_row.Goals as goal
 
 pub returns-then-y-t : goal.returns-then-y-t

@@ -1,8 +1,6 @@
-use Rattle.laws.specs.Tests.{not_out}
 use Rattle.words.specs.Words.{column}
 use Rattle.clean.specs.FarLaws.{look_none, look_some, look_full}
 use native.Mathlib.Omega.{arith}
-use borrow.Author.Rules.{rules}
 use Rattle.clean.proofs.far.look.Goals as goal
 
 pub overflow_add-k : goal.overflow_add-k

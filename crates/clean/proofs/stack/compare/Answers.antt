@@ -1,5 +1,5 @@
 use mathlib.Core.Path.{◌≡◌, subst}
-use Prim.Native.Nat.{ℕ, ◌≤◌, ◌+◌, ◌-◌}
+use Prim.Native.Nat.{ℕ, ◌+◌}
 use borrow.Author.Tests.{eqb-true}
 use Rattle.clean.specs.StretchLaws.{SameTo, same_more, same_all, NoneTo, none_more, none_all}
 use native.Mathlib.Omega.{arith}

@@ -1,8 +1,6 @@
-use mathlib.Core.Path.{◌≡◌, subst}
-use Prim.Native.Nat.{ℕ, ◌≤◌, ◌+◌, ◌-◌}
-use borrow.Author.Tests.{eqb-true}
-use Rattle.clean.specs.StretchLaws.{SameTo, same_more, same_all, NoneTo, none_more, none_all}
-use native.Mathlib.Omega.{arith}
+use mathlib.Core.Path.{◌≡◌}
+use Prim.Native.Nat.{◌≤◌, ◌-◌}
+use Rattle.clean.specs.StretchLaws.{SameTo, NoneTo}
 use Rattle.clean.proofs.stack.compare.Given as goal
 
 abbrev pub invariant-loop-i : goal.invariant-loop-i

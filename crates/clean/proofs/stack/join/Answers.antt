@@ -1,5 +1,5 @@
 use mathlib.Core.Path.{◌≡◌, subst}
-use Prim.Native.Nat.{ℕ, ◌≤◌, ◌+◌, ◌-◌}
+use Prim.Native.Nat.{ℕ, ◌+◌}
 use Rattle.image.specs.Filling.{Filling, filling_none}
 use Rattle.clean.specs.Layers.{joined_bit}
 use Rattle.clean.specs.StretchLaws.{join_more}

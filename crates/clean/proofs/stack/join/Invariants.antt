@@ -1,9 +1,6 @@
-use mathlib.Core.Path.{◌≡◌, subst}
-use Prim.Native.Nat.{ℕ, ◌≤◌, ◌+◌, ◌-◌}
-use Rattle.image.specs.Filling.{Filling, filling_none}
+use Prim.Native.Nat.{◌≤◌, ◌+◌, ◌-◌}
+use Rattle.image.specs.Filling.{Filling}
 use Rattle.clean.specs.Layers.{joined_bit}
-use Rattle.clean.specs.StretchLaws.{join_more}
-use native.Mathlib.Omega.{arith}
 use Rattle.clean.proofs.stack.join.Given as goal
 
 abbrev pub invariant-loop-i : goal.invariant-loop-i

@@ -1,7 +1,5 @@
 use mathlib.Core.Path.{◌≡◌, refl, sym, subst, ◌∙◌}
-use Prim.Native.Nat.{ℕ, suc, ◌≤◌, ◌-◌, ◌*◌}
-use lib.ListN.{length}
-use Rattle.planes.specs.Scratch.{Ready}
+use Prim.Native.Nat.{ℕ, suc, ◌-◌, ◌*◌}
 use Rattle.clean.specs.Layers.{Down}
 use Rattle.clean.specs.LayerLaws.{down_end}
 use native.Mathlib.Omega.{arith}

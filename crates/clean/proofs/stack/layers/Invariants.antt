@@ -1,10 +1,8 @@
-use mathlib.Core.Path.{◌≡◌, refl, sym, subst, ◌∙◌}
-use Prim.Native.Nat.{ℕ, suc, ◌≤◌, ◌-◌, ◌*◌}
+use mathlib.Core.Path.{◌≡◌}
+use Prim.Native.Nat.{◌≤◌, ◌-◌, ◌*◌}
 use lib.ListN.{length}
 use Rattle.planes.specs.Scratch.{Ready}
 use Rattle.clean.specs.Layers.{Down}
-use Rattle.clean.specs.LayerLaws.{down_end}
-use native.Mathlib.Omega.{arith}
 use Rattle.clean.proofs.stack.layers.Given as goal
 
 abbrev pub invariant-loop-i : goal.invariant-loop-i

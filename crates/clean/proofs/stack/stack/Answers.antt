@@ -6,7 +6,6 @@ use Rattle.pair.specs.PairLaws.{plane_size, fresh_pack, zeros_small}
 use Rattle.clean.specs.FarLaws.{disc_small}
 use Rattle.clean.specs.LayerLaws.{down_start}
 use native.Mathlib.Omega.{arith}
-use borrow.Author.Rules.{rules}
 use Rattle.clean.proofs.stack.stack.Goals as goal
 
 pub overflow_mul-size : goal.overflow_mul-size

@@ -5,7 +5,6 @@ use Rattle.pair.specs.PairLaws.{plane_size}
 use Rattle.plan.specs.StackLaws.{layer_room, up_room, lent_low}
 use Rattle.clean.specs.LayerLaws.{same_closing, no_closing, cut_closing}
 use native.Mathlib.Omega.{arith}
-use borrow.Author.Rules.{rules}
 use Rattle.clean.proofs.stack.widen.Goals as goal
 
 pub overflow_mul-size : goal.overflow_mul-size

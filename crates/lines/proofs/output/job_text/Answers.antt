@@ -3,7 +3,6 @@ use lib.Seq.{length-take-le}
 use Rattle.laws.specs.Limits.{ranged}
 use Rattle.lines.specs.Printed.{seventeen_short, refused_printed, plan_fits, text_no_room, text_lines}
 use native.Mathlib.Omega.{arith}
-use borrow.Author.Rules.{rules}
 use Rattle.lines.proofs.output.job_text.Goals as goal
 
 pub ring_count-count-requires : goal.ring_count-count-requires

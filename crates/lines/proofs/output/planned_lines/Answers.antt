@@ -1,5 +1,4 @@
 use Rattle.lines.specs.Printed.{planned_whole, planned_printed}
-use borrow.Author.Rules.{rules}
 use Rattle.lines.proofs.output.planned_lines.Goals as goal
 
 pub job_lines-requires : goal.job_lines-requires

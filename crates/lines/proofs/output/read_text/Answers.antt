@@ -1,6 +1,5 @@
 use Prim.Native.Nat.{ℕ}
 use lib.ListN.{length-replicate}
-use borrow.Author.Rules.{rules}
 use Rattle.lines.proofs.output.read_text.Goals as goal
 
 pub job_text-requires : goal.job_text-requires

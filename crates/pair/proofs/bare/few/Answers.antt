@@ -2,7 +2,6 @@ use mathlib.Core.Path.{refl, ◌∙◌}
 use Rattle.waves.specs.RowLaws.{word_room, four_numbers}
 use Rattle.pair.specs.BareLaws.{bared_few}
 use native.Mathlib.Omega.{arith}
-use borrow.Author.Rules.{rules}
 use Rattle.pair.proofs.bare.few.Goals as goal
 
 pub number-requires : goal.number-requires

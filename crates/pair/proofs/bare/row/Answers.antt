@@ -1,6 +1,5 @@
 use Rattle.words.specs.Words.{column}
 use native.Mathlib.Omega.{arith}
-use borrow.Author.Rules.{rules}
 use Rattle.pair.proofs.bare.row.Goals as goal
 
 pub returns-then-quarters : goal.returns-then-quarters

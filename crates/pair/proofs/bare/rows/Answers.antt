@@ -1,11 +1,9 @@
 use mathlib.Core.Path.{◌≡◌, refl, ◌∙◌}
-use Prim.Native.Nat.{ℕ, ◌+◌, ◌-◌, ◌*◌, ◌≤◌}
-use lib.ListN.{length}
+use Prim.Native.Nat.{◌+◌}
 use Rattle.words.specs.Words.{column}
 use Rattle.planes.specs.PlaneLaws.{row_fits, plane_max}
-use Rattle.pair.specs.BareLaws.{BareTo, bare_start, bare_row, row_inside}
+use Rattle.pair.specs.BareLaws.{bare_start, bare_row, row_inside}
 use native.Mathlib.Omega.{arith}
-use borrow.Author.Rules.{rules}
 use Rattle.pair.proofs.bare.rows.Goals as goal
 
 pub bounds-ahead-0 : goal.bounds-ahead-0

@@ -1,11 +1,7 @@
-use mathlib.Core.Path.{◌≡◌, refl, ◌∙◌}
-use Prim.Native.Nat.{ℕ, ◌+◌, ◌-◌, ◌*◌, ◌≤◌}
+use mathlib.Core.Path.{◌≡◌}
+use Prim.Native.Nat.{◌-◌, ◌≤◌}
 use lib.ListN.{length}
-use Rattle.words.specs.Words.{column}
-use Rattle.planes.specs.PlaneLaws.{row_fits, plane_max}
-use Rattle.pair.specs.BareLaws.{BareTo, bare_start, bare_row, row_inside}
-use native.Mathlib.Omega.{arith}
-use borrow.Author.Rules.{rules}
+use Rattle.pair.specs.BareLaws.{BareTo}
 use Rattle.pair.proofs.bare.rows.Given as goal
 
 abbrev pub invariant-loop-y : goal.invariant-loop-y

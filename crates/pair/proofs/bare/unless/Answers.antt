@@ -1,7 +1,5 @@
 use mathlib.Core.Path.{refl}
-use Rattle.laws.specs.Tests.{clash, not_out}
-use borrow.Author.Rules.{rules}
-use borrow.Author.Tests.{not-false}
+use Rattle.laws.specs.Tests.{clash}
 use Rattle.pair.proofs.bare.unless.Goals as goal
 
 pub returns-then-not-wanted : goal.returns-then-not-wanted

@@ -1,12 +1,8 @@
-use mathlib.Core.Path.{◌≡◌, refl, ◌∙◌}
-use mathlib.Core.Bool.{false}
-use Prim.Native.Nat.{◌+◌, ◌-◌, ◌≤◌}
-use lib.ListN.{length}
+use mathlib.Core.Path.{refl, ◌∙◌}
+use Prim.Native.Nat.{◌+◌}
 use Rattle.words.specs.Words.{column}
-use Rattle.waves.specs.Rows.{Upto}
 use Rattle.pair.specs.FoundLaws.{empty_start, empty_more, empty_all}
 use native.Mathlib.Omega.{arith}
-use borrow.Author.Rules.{rules}
 use Rattle.pair.proofs.rows.empty.Goals as goal
 
 pub bounds-ahead-0 : goal.bounds-ahead-0

@@ -1,12 +1,8 @@
-use mathlib.Core.Path.{◌≡◌, refl, ◌∙◌}
+use mathlib.Core.Path.{◌≡◌}
 use mathlib.Core.Bool.{false}
-use Prim.Native.Nat.{◌+◌, ◌-◌, ◌≤◌}
+use Prim.Native.Nat.{◌-◌, ◌≤◌}
 use lib.ListN.{length}
-use Rattle.words.specs.Words.{column}
 use Rattle.waves.specs.Rows.{Upto}
-use Rattle.pair.specs.FoundLaws.{empty_start, empty_more, empty_all}
-use native.Mathlib.Omega.{arith}
-use borrow.Author.Rules.{rules}
 use Rattle.pair.proofs.rows.empty.Given as goal
 
 abbrev pub invariant-loop-y : goal.invariant-loop-y

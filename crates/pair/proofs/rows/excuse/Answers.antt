@@ -1,10 +1,9 @@
 use mathlib.Core.Path.{◌≡◌, refl}
-use Prim.Native.Nat.{◌+◌, ◌-◌, ◌≤◌}
+use Prim.Native.Nat.{◌+◌}
 use Rattle.words.specs.Words.{column}
 use Rattle.planes.specs.PlaneLaws.{row_fits}
-use Rattle.pair.specs.ExcuseLaws.{ExcusedTo, excused_start, excused_row, excused_next, excused_empty, row_byte}
+use Rattle.pair.specs.ExcuseLaws.{excused_start, excused_row, excused_next, excused_empty, row_byte}
 use native.Mathlib.Omega.{arith}
-use borrow.Author.Rules.{rules}
 use Rattle.pair.proofs.rows.excuse.Goals as goal
 
 pub bounds-ahead-0 : goal.bounds-ahead-0

@@ -1,16 +1,13 @@
 use Prim.Native.Nat.{◌<◌}
 use mathlib.Core.Path.{◌≡◌, refl, sym, ◌∙◌}
-use Prim.Native.Nat.{◌+◌, ◌-◌, ◌≤◌}
-use lib.ListN.{length, get_or, length-set}
+use Prim.Native.Nat.{◌+◌, ◌-◌}
+use lib.ListN.{length-set}
 use lib.Seq.{get_or-set_same}
 use Rattle.rules.specs.Planning.{seeds, shadow}
 use Rattle.image.specs.Rows.{packed}
 use Rattle.rings.specs.ByteLaws.{row_at}
-use Rattle.rings.specs.NearRings.{pixel_bits}
-use Rattle.pair.specs.Found.{AheadFrom, Below}
 use Rattle.pair.specs.FoundLaws.{empty_ready, below_start, below_all, ahead_start, ahead_next, ahead_all, found_room, seed_more, left_more}
 use native.Mathlib.Omega.{arith}
-use borrow.Author.Rules.{rules}
 use Rattle.pair.proofs.rows.find.Goals as goal
 
 pub offset_bounds-ahead-h : goal.offset_bounds-ahead-h

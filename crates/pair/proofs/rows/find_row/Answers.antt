@@ -1,7 +1,5 @@
 use Rattle.words.specs.Words.{column}
-use Rattle.laws.specs.Tests.{not_out}
 use Rattle.pair.specs.FoundLaws.{found, found_none}
-use borrow.Author.Rules.{rules}
 use Rattle.pair.proofs.rows.find_row.Goals as goal
 
 pub returns-then-not-any : goal.returns-then-not-any

@@ -1,4 +1,4 @@
-use mathlib.Core.Path.{◌≡◌, refl, sym, ap, subst, ◌∙◌}
+use mathlib.Core.Path.{◌≡◌, sym, ap, subst, ◌∙◌}
 use mathlib.Core.List.{List}
 use Prim.Native.Nat.{ℕ, ◌-◌, ◌+◌, ◌*◌}
 use borrow.Rule.Slice.PartMut.{same_len_mid, put_mid}
@@ -10,7 +10,6 @@ use Rattle.image.specs.Rows.{packed, Packs}
 use Rattle.image.specs.Stretches.{mid_put}
 use Rattle.pair.specs.Pairs.{pair_support}
 use native.Mathlib.Omega.{arith}
-use borrow.Author.Rules.{rules}
 use Rattle.plan.proofs.stack.layer_at.Goals as goal
 
 pub overflow_mul-size : goal.overflow_mul-size

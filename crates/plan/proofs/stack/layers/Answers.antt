@@ -1,9 +1,7 @@
 use mathlib.Core.Path.{◌≡◌, refl, sym, subst, ◌∙◌}
-use Prim.Native.Nat.{ℕ, ◌≤◌, ◌-◌, ◌+◌}
-use lib.ListN.{length}
+use Prim.Native.Nat.{ℕ, ◌-◌, ◌+◌}
 use Rattle.plan.specs.StackLaws.{down_end}
 use Rattle.plan.specs.Stacks.{Down}
-use Rattle.pair.specs.Found.{Spare}
 use native.Mathlib.Omega.{arith}
 use Rattle.plan.proofs.stack.layers.Goals as goal
 

@@ -1,10 +1,8 @@
-use mathlib.Core.Path.{◌≡◌, refl, sym, subst, ◌∙◌}
-use Prim.Native.Nat.{ℕ, ◌≤◌, ◌-◌, ◌+◌}
+use mathlib.Core.Path.{◌≡◌}
+use Prim.Native.Nat.{◌≤◌, ◌-◌}
 use lib.ListN.{length}
-use Rattle.plan.specs.StackLaws.{down_end}
 use Rattle.plan.specs.Stacks.{Down}
 use Rattle.pair.specs.Found.{Spare}
-use native.Mathlib.Omega.{arith}
 use Rattle.plan.proofs.stack.layers.Given as goal
 
 abbrev pub invariant-loop-i : goal.invariant-loop-i

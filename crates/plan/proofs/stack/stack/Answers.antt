@@ -4,7 +4,6 @@ use lib.ListN.{take, replicate}
 use Rattle.pair.specs.PairLaws.{plane_size, fresh_pack, zeros_small}
 use Rattle.plan.specs.StackLaws.{down_start, fresh_spare}
 use native.Mathlib.Omega.{arith}
-use borrow.Author.Rules.{rules}
 use Rattle.plan.proofs.stack.stack.Goals as goal
 
 pub overflow_mul-size : goal.overflow_mul-size

@@ -5,7 +5,6 @@ use lib.ListN.{length}
 use Rattle.pair.specs.PairLaws.{plane_size}
 use Rattle.plan.specs.StackLaws.{layer_room, lent_support, top_done}
 use native.Mathlib.Omega.{arith}
-use borrow.Author.Rules.{rules}
 use Rattle.plan.proofs.stack.top.Goals as goal
 
 pub overflow_mul-size : goal.overflow_mul-size

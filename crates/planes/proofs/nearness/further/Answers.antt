@@ -2,7 +2,6 @@ use Prim.Native.Nat.{◌-◌}
 use Rattle.planes.specs.PlaneLaws.{column_in}
 use Rattle.planes.specs.NearLaws.{near_more, half_less, half_max, before_in, half_is}
 use native.Mathlib.Omega.{arith}
-use borrow.Author.Rules.{rules}
 use Rattle.planes.proofs.nearness.further.Goals as goal
 
 pub bounds-half-d : goal.bounds-half-d

@@ -1,12 +1,10 @@
-use Prim.Native.Nat.{◌-◌, ◌+◌, ◌≤◌}
+use Prim.Native.Nat.{◌-◌, ◌+◌}
 use mathlib.Core.Path.{◌≡◌}
-use Rattle.rules.specs.Reach.{half_width, root}
+use Rattle.rules.specs.Reach.{root}
 use Rattle.laws.specs.Discs.{root_small}
 use Rattle.words.specs.Words.{column}
-use Rattle.planes.specs.Nearness.{NearTo}
 use Rattle.planes.specs.NearLaws.{half_root, near_own, near_all_lem, half_max, half_is, reach_in}
 use native.Mathlib.Omega.{arith}
-use borrow.Author.Rules.{rules}
 use Rattle.planes.proofs.nearness.near_row.Goals as goal
 
 pub bounds-half-0 : goal.bounds-half-0

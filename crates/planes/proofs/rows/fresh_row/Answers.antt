@@ -2,7 +2,6 @@ use mathlib.Core.Path.{ap, ◌∙◌}
 use mathlib.Core.Bool.{Bool, ◌||◌}
 use Rattle.words.specs.Words.{column}
 use Rattle.planes.specs.PlaneLaws.{fresh_columns}
-use borrow.Author.Rules.{rules}
 use Rattle.planes.proofs.rows.fresh_row.Goals as goal
 
 pub returns : goal.returns

@@ -1,6 +1,5 @@
 use Rattle.words.specs.Words.{column}
 use Rattle.planes.specs.PlaneLaws.{put_words_lem}
-use borrow.Author.Rules.{rules}
 use Rattle.planes.proofs.rows.put.Goals as goal
 
 pub returns : goal.returns

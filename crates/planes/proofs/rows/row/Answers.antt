@@ -1,6 +1,5 @@
 use mathlib.Core.Path.{◌∙◌}
 use Rattle.planes.specs.PlaneLaws.{row_words}
-use borrow.Author.Rules.{rules}
 use Rattle.planes.proofs.rows.row.Goals as goal
 
 pub returns : goal.returns

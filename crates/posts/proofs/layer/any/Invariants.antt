@@ -1,9 +1,7 @@
-use mathlib.Core.Path.{◌≡◌, subst}
-use Prim.Native.Nat.{ℕ, ◌≤◌, ◌-◌}
-use lib.ListN.{length, get_or}
-use Rattle.image.specs.Bits.{or_none}
-use Rattle.posts.specs.LayerLaws.{NoneSet, set_more, set_none}
-use native.Mathlib.Omega.{arith}
+use mathlib.Core.Path.{◌≡◌}
+use Prim.Native.Nat.{◌≤◌, ◌-◌}
+use lib.ListN.{length}
+use Rattle.posts.specs.LayerLaws.{NoneSet}
 use Rattle.posts.proofs.layer.any.Given as goal
 
 abbrev pub invariant-loop-i : goal.invariant-loop-i

@@ -1,8 +1,7 @@
 use mathlib.Core.Path.{◌≡◌}
 use mathlib.Core.Bool.{not, ◌&&◌}
-use Prim.Native.Nat.{◌≤◌, ◌-◌}
 use lib.ListN.{length}
-use Rattle.image.specs.Filling.{Filling, filling_none, filling_more, filling_all}
+use Rattle.image.specs.Filling.{filling_none, filling_more, filling_all}
 use Rattle.image.specs.Scratch.{bit_of}
 use Rattle.posts.specs.LayerLaws.{from_byte}
 use native.Mathlib.Omega.{arith}

@@ -1,11 +1,8 @@
-use mathlib.Core.Path.{◌≡◌}
 use mathlib.Core.Bool.{not, ◌&&◌}
 use Prim.Native.Nat.{◌≤◌, ◌-◌}
 use lib.ListN.{length}
-use Rattle.image.specs.Filling.{Filling, filling_none, filling_more, filling_all}
+use Rattle.image.specs.Filling.{Filling}
 use Rattle.image.specs.Scratch.{bit_of}
-use Rattle.posts.specs.LayerLaws.{from_byte}
-use native.Mathlib.Omega.{arith}
 use Rattle.posts.proofs.layer.carry.Given as goal
 
 abbrev pub invariant-loop-i : goal.invariant-loop-i

@@ -1,8 +1,6 @@
 use mathlib.Core.Path.{sym, ◌∙◌}
-use Rattle.laws.specs.Tests.{not_out}
 use Rattle.posts.specs.LayerLaws.{empty_packs, none_packs, down_packs}
 use native.Mathlib.Omega.{arith}
-use borrow.Author.Rules.{rules}
 use Rattle.posts.proofs.layer.layer.Goals as goal
 
 pub returns-then-not-any : goal.returns-then-not-any

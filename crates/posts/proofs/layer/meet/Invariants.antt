@@ -1,10 +1,7 @@
-use mathlib.Core.Path.{◌≡◌, subst}
-use Prim.Native.Nat.{ℕ, ◌≤◌, ◌-◌}
-use lib.Bits.{bit_and}
-use lib.ListN.{length, get_or}
-use Rattle.image.specs.Bits.{or_none}
-use Rattle.posts.specs.LayerLaws.{NoneShared, shared_more, shared_none}
-use native.Mathlib.Omega.{arith}
+use mathlib.Core.Path.{◌≡◌}
+use Prim.Native.Nat.{◌≤◌, ◌-◌}
+use lib.ListN.{length}
+use Rattle.posts.specs.LayerLaws.{NoneShared}
 use Rattle.posts.proofs.layer.meet.Given as goal
 
 abbrev pub invariant-loop-i : goal.invariant-loop-i

@@ -6,7 +6,6 @@ use Rattle.image.specs.Rows.{packed, Packs}
 use Rattle.pair.specs.PairLaws.{plane_size}
 use Rattle.posts.specs.LayerLaws.{down_packs, posts_packs, two_room, upper_long, lower_long, stacked_long, stacked_clear, stacked_held}
 use native.Mathlib.Omega.{arith}
-use borrow.Author.Rules.{rules}
 use Rattle.posts.proofs.layer.thin.Goals as goal
 
 pub overflow_mul-size : goal.overflow_mul-size

@@ -1,13 +1,7 @@
-use mathlib.Core.Path.{◌≡◌, refl, sym, ap, ◌∙◌}
-use Prim.Native.Nat.{ℕ, ◌+◌, ◌-◌, ◌*◌, ◌<◌, ◌≤◌}
-use mathlib.Core.Bool.{false}
-use lib.ListN.{length}
+use mathlib.Core.Path.{◌≡◌, refl, ◌∙◌}
 use Rattle.planes.specs.PlaneLaws.{row_next}
-use Rattle.planes.specs.Scratch.{seen}
-use Rattle.posts.specs.Scanning.{ScanPlanes, Scanning}
 use Rattle.posts.specs.ScanLaws.{scanning_none, scanning_then, scanning_all}
 use native.Mathlib.Omega.{arith}
-use borrow.Author.Rules.{rules}
 use Rattle.posts.proofs.scan.scan.Goals as goal
 
 pub loop-y-init : goal.loop-y-init

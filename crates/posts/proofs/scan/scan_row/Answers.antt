@@ -1,14 +1,8 @@
-use mathlib.Core.Path.{◌≡◌, refl, sym, ◌∙◌}
-use Prim.Native.Nat.{ℕ, ◌+◌, ◌-◌, ◌*◌, ◌≤◌}
+use mathlib.Core.Path.{refl, ◌∙◌}
 use lib.Arith.{digits_lt}
-use lib.ListN.{length}
-use Rattle.rules.specs.Tools.{count}
-use Rattle.planes.specs.PlaneLaws.{row_fits, seen_at}
-use Rattle.planes.specs.Scratch.{seen}
-use Rattle.posts.specs.Scanning.{ScanPlanes, Scanning}
-use Rattle.posts.specs.ScanLaws.{pixel_clean, pixel_packed, row_bits, Before, before_start, before_word, first_pixel, row_done, before_fewer, fewer, counted_less, scanning_none, scanning_more}
+use Rattle.planes.specs.PlaneLaws.{seen_at}
+use Rattle.posts.specs.ScanLaws.{pixel_clean, pixel_packed, row_bits, before_start, before_word, first_pixel, row_done, before_fewer, fewer, counted_less, scanning_none, scanning_more}
 use native.Mathlib.Omega.{arith}
-use borrow.Author.Rules.{rules}
 use Rattle.posts.proofs.scan.scan_row.Goals as goal
 
 pub overflow_mul-at : goal.overflow_mul-at

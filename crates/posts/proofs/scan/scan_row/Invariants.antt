@@ -1,14 +1,10 @@
-use mathlib.Core.Path.{◌≡◌, refl, sym, ◌∙◌}
-use Prim.Native.Nat.{ℕ, ◌+◌, ◌-◌, ◌*◌, ◌≤◌}
-use lib.Arith.{digits_lt}
+use mathlib.Core.Path.{◌≡◌}
+use Prim.Native.Nat.{◌+◌, ◌-◌, ◌*◌, ◌≤◌}
 use lib.ListN.{length}
 use Rattle.rules.specs.Tools.{count}
-use Rattle.planes.specs.PlaneLaws.{row_fits, seen_at}
 use Rattle.planes.specs.Scratch.{seen}
 use Rattle.posts.specs.Scanning.{ScanPlanes, Scanning}
-use Rattle.posts.specs.ScanLaws.{pixel_clean, pixel_packed, row_bits, Before, before_start, before_word, first_pixel, row_done, before_fewer, fewer, counted_less, scanning_none, scanning_more}
-use native.Mathlib.Omega.{arith}
-use borrow.Author.Rules.{rules}
+use Rattle.posts.specs.ScanLaws.{Before}
 use Rattle.posts.proofs.scan.scan_row.Given as goal
 
 abbrev pub invariant-loop-k : goal.invariant-loop-k

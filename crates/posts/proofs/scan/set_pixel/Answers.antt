@@ -1,6 +1,5 @@
 use Rattle.posts.specs.ScanLaws.{pixel_set}
 use native.Mathlib.Omega.{arith}
-use borrow.Author.Rules.{rules}
 use Rattle.posts.proofs.scan.set_pixel.Goals as goal
 
 pub returns : goal.returns

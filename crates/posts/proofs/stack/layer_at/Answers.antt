@@ -6,7 +6,6 @@ use Rattle.pair.specs.PairLaws.{plane_size}
 use Rattle.plan.specs.StackLaws.{layer_room, up_room, lent_low, lent_up}
 use Rattle.posts.specs.StackLaws.{own_packs, above_apart, above_inside, layer_done, given_long, given_room, given_back}
 use native.Mathlib.Omega.{arith}
-use borrow.Author.Rules.{rules}
 use Rattle.posts.proofs.stack.layer_at.Goals as goal
 
 pub overflow_mul-size : goal.overflow_mul-size

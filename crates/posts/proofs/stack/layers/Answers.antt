@@ -1,8 +1,7 @@
 use mathlib.Core.Path.{◌≡◌, refl, sym, subst, ◌∙◌}
-use Prim.Native.Nat.{ℕ, ◌≤◌, ◌-◌, ◌+◌}
-use lib.ListN.{length}
+use Prim.Native.Nat.{ℕ, ◌-◌, ◌+◌}
 use Rattle.posts.specs.StackLaws.{down_end}
-use Rattle.posts.specs.Stacks.{Down, Scratch}
+use Rattle.posts.specs.Stacks.{Down}
 use native.Mathlib.Omega.{arith}
 use Rattle.posts.proofs.stack.layers.Goals as goal
 

@@ -1,9 +1,7 @@
-use mathlib.Core.Path.{◌≡◌, refl, sym, subst, ◌∙◌}
-use Prim.Native.Nat.{ℕ, ◌≤◌, ◌-◌, ◌+◌}
+use mathlib.Core.Path.{◌≡◌}
+use Prim.Native.Nat.{◌≤◌, ◌-◌}
 use lib.ListN.{length}
-use Rattle.posts.specs.StackLaws.{down_end}
 use Rattle.posts.specs.Stacks.{Down, Scratch}
-use native.Mathlib.Omega.{arith}
 use Rattle.posts.proofs.stack.layers.Given as goal
 
 abbrev pub invariant-loop-i : goal.invariant-loop-i

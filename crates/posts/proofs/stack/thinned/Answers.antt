@@ -3,7 +3,6 @@ use Prim.Native.Nat.{◌*◌}
 use Rattle.pair.specs.PairLaws.{plane_size, fresh_pack}
 use Rattle.posts.specs.StackLaws.{fresh_long, fresh_scratch, down_start}
 use native.Mathlib.Omega.{arith}
-use borrow.Author.Rules.{rules}
 use Rattle.posts.proofs.stack.thinned.Goals as goal
 
 pub overflow_mul-size : goal.overflow_mul-size

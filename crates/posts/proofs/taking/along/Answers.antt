@@ -1,10 +1,6 @@
-use Rattle.rules.specs.Tools.{count}
-use mathlib.Core.Bool.{not, ◌&&◌}
 use Rattle.words.specs.Words.{column}
 use Rattle.planes.specs.PlaneLaws.{column_in}
-use Rattle.posts.specs.AlongLaws.{Joining, More, joining_start, more_is, joining_more, joining_less, joining_end}
-use native.Mathlib.Omega.{arith}
-use borrow.Author.Rules.{rules}
+use Rattle.posts.specs.AlongLaws.{joining_start, more_is, joining_more, joining_less, joining_end}
 use Rattle.posts.proofs.taking.along.Goals as goal
 
 pub loop-free-init : goal.loop-free-init

@@ -1,10 +1,7 @@
 use Rattle.rules.specs.Tools.{count}
 use mathlib.Core.Bool.{not, ◌&&◌}
 use Rattle.words.specs.Words.{column}
-use Rattle.planes.specs.PlaneLaws.{column_in}
-use Rattle.posts.specs.AlongLaws.{Joining, More, joining_start, more_is, joining_more, joining_less, joining_end}
-use native.Mathlib.Omega.{arith}
-use borrow.Author.Rules.{rules}
+use Rattle.posts.specs.AlongLaws.{Joining, More}
 use Rattle.posts.proofs.taking.along.Given as goal
 
 abbrev pub invariant-loop-free : goal.invariant-loop-free

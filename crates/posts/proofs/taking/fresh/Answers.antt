@@ -1,7 +1,5 @@
 use Rattle.words.specs.Words.{column}
 use Rattle.posts.specs.LookLaws.{fresh_is}
-use native.Mathlib.Omega.{arith}
-use borrow.Author.Rules.{rules}
 use Rattle.posts.proofs.taking.fresh.Goals as goal
 
 pub returns : goal.returns

@@ -1,8 +1,6 @@
 use mathlib.Core.Bool.{Bool, not, ◌&&◌, ◌||◌}
 use Rattle.words.specs.Words.{column}
 use Rattle.posts.specs.LookLaws.{put_back}
-use native.Mathlib.Omega.{arith}
-use borrow.Author.Rules.{rules}
 use Rattle.posts.proofs.taking.get.Goals as goal
 
 pub returns : goal.returns

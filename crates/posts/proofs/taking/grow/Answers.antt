@@ -1,16 +1,8 @@
-use mathlib.Core.Path.{◌≡◌, refl, sym, ◌∙◌}
-use mathlib.Core.List.{List}
-use Prim.Native.Nat.{ℕ, ◌+◌, ◌-◌, ◌*◌, ◌<◌, ◌≤◌}
-use lib.ListN.{length}
-use Rattle.rules.specs.Reach.{most_bound}
-use Rattle.rules.specs.Tools.{count}
-use Rattle.laws.specs.Discs.{Halves}
+use mathlib.Core.Path.{◌≡◌, sym, ◌∙◌}
+use Prim.Native.Nat.{◌+◌, ◌*◌}
 use Rattle.laws.specs.Tests.{clash}
-use Rattle.words.specs.Words.{word_bit}
-use Rattle.posts.specs.Taking.{Taking, Ahead, ClosedBut}
 use Rattle.posts.specs.GrowLaws.{closed_start, closed_end, taking_more, closed_next, closed_back, beyond, stepped, ended, half_at, looked_same, count_same, count_less}
 use native.Mathlib.Omega.{arith}
-use borrow.Author.Rules.{rules}
 use Rattle.posts.proofs.taking.grow.Goals as goal
 
 pub word_of-b-requires : goal.word_of-b-requires

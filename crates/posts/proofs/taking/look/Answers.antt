@@ -2,11 +2,7 @@ use mathlib.Core.Path.{ap, ◌∙◌}
 use mathlib.Core.Bool.{Bool, ◌&&◌}
 use Rattle.words.specs.Words.{column}
 use Rattle.planes.specs.PlaneLaws.{column_in}
-use Rattle.laws.specs.Tests.{not_out}
 use Rattle.posts.specs.LookLaws.{looked_none, looked_still, looked_some, fresh_free}
-use native.Mathlib.Omega.{arith}
-use borrow.Author.Rules.{rules}
-use borrow.Author.Tests.{not-false}
 use Rattle.posts.proofs.taking.look.Goals as goal
 
 pub returns-then-not-any : goal.returns-then-not-any

@@ -1,6 +1,4 @@
 use Rattle.words.specs.Words.{column}
-use native.Mathlib.Omega.{arith}
-use borrow.Author.Rules.{rules}
 use Rattle.posts.proofs.taking.put_two.Goals as goal
 
 pub returns : goal.returns

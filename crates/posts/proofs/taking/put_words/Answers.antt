@@ -1,7 +1,6 @@
 use lib.ListN.{length-set}
 use Rattle.posts.specs.TwoLaws.{two_put}
 use native.Mathlib.Omega.{arith}
-use borrow.Author.Rules.{rules}
 use Rattle.posts.proofs.taking.put_words.Goals as goal
 
 pub bounds-l-i-2 : goal.bounds-l-i-2

@@ -3,7 +3,6 @@ use Prim.Native.Nat.{◌<◌}
 use Rattle.posts.specs.GrowLaws.{wiped}
 use Rattle.posts.specs.TakeLaws.{own_bit, taking_start, ahead, spares, still_ready}
 use native.Mathlib.Omega.{arith}
-use borrow.Author.Rules.{rules}
 use Rattle.posts.proofs.taking.take.Goals as goal
 
 pub overflow_add-i : goal.overflow_add-i

@@ -1,7 +1,5 @@
 use Rattle.words.specs.Words.{column}
 use Rattle.posts.specs.TwoLaws.{two_got}
-use native.Mathlib.Omega.{arith}
-use borrow.Author.Rules.{rules}
 use Rattle.posts.proofs.taking.two.Goals as goal
 
 pub returns : goal.returns

@@ -1,10 +1,7 @@
-use mathlib.Core.Path.{◌≡◌, refl, ◌∙◌}
-use Prim.Native.Nat.{ℕ, ◌-◌, ◌≤◌}
-use lib.ListN.{length}
+use mathlib.Core.Path.{refl, ◌∙◌}
 use Rattle.words.specs.Words.{column}
-use Rattle.posts.specs.TwoLaws.{WipedTo, wiped_none, wiped_more}
+use Rattle.posts.specs.TwoLaws.{wiped_none, wiped_more}
 use native.Mathlib.Omega.{arith}
-use borrow.Author.Rules.{rules}
 use Rattle.posts.proofs.taking.wipe.Goals as goal
 
 pub loop-d-init : goal.loop-d-init

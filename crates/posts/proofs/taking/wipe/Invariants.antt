@@ -1,10 +1,7 @@
-use mathlib.Core.Path.{◌≡◌, refl, ◌∙◌}
-use Prim.Native.Nat.{ℕ, ◌-◌, ◌≤◌}
+use mathlib.Core.Path.{◌≡◌}
+use Prim.Native.Nat.{◌-◌, ◌≤◌}
 use lib.ListN.{length}
-use Rattle.words.specs.Words.{column}
-use Rattle.posts.specs.TwoLaws.{WipedTo, wiped_none, wiped_more}
-use native.Mathlib.Omega.{arith}
-use borrow.Author.Rules.{rules}
+use Rattle.posts.specs.TwoLaws.{WipedTo}
 use Rattle.posts.proofs.taking.wipe.Given as goal
 
 abbrev pub invariant-loop-d : goal.invariant-loop-d

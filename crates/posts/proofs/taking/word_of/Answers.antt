@@ -1,6 +1,4 @@
 use Rattle.posts.specs.TwoLaws.{two_words}
-use native.Mathlib.Omega.{arith}
-use borrow.Author.Rules.{rules}
 use Rattle.posts.proofs.taking.word_of.Goals as goal
 
 pub returns : goal.returns

@@ -1,8 +1,5 @@
-use mathlib.Core.Path.{◌≡◌, refl, ◌∙◌}
-use Prim.Native.Nat.{◌+◌, ◌-◌, ◌≤◌}
-use lib.ListN.{length}
-use Rattle.waves.specs.Rows.{Upto}
-use Rattle.rings.specs.NearRings.{near_bits}
+use mathlib.Core.Path.{refl, ◌∙◌}
+use Prim.Native.Nat.{◌+◌}
 use Rattle.rings.specs.FarLaws.{drop_start, drop_more, drop_all, near_mid}
 use native.Mathlib.Omega.{arith}
 use Rattle.rings.proofs.far.drop_far.Goals as goal

@@ -1,10 +1,8 @@
-use mathlib.Core.Path.{◌≡◌, refl, ◌∙◌}
-use Prim.Native.Nat.{◌+◌, ◌-◌, ◌≤◌}
+use mathlib.Core.Path.{◌≡◌}
+use Prim.Native.Nat.{◌-◌, ◌≤◌}
 use lib.ListN.{length}
 use Rattle.waves.specs.Rows.{Upto}
 use Rattle.rings.specs.NearRings.{near_bits}
-use Rattle.rings.specs.FarLaws.{drop_start, drop_more, drop_all, near_mid}
-use native.Mathlib.Omega.{arith}
 use Rattle.rings.proofs.far.drop_far.Given as goal
 
 abbrev pub invariant-loop-y : goal.invariant-loop-y

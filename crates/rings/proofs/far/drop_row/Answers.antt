@@ -1,7 +1,5 @@
 use Rattle.words.specs.Words.{column}
-use Rattle.laws.specs.Tests.{not_out}
 use Rattle.rings.specs.FarLaws.{drop_row_lem, keep_row}
-use borrow.Author.Rules.{rules}
 use Rattle.rings.proofs.far.drop_row.Goals as goal
 
 pub returns-then-not-any : goal.returns-then-not-any

@@ -1,13 +1,7 @@
-use mathlib.Core.Path.{◌≡◌, refl, ◌∙◌}
-use Prim.Native.Nat.{◌-◌, ◌≤◌}
-use lib.ListN.{length}
+use mathlib.Core.Path.{refl, ◌∙◌}
 use Rattle.words.specs.Words.{column}
-use Rattle.image.specs.Rows.{packed}
-use Rattle.waves.specs.Rows.{Upto}
-use Rattle.rings.specs.NearRings.{pixel_bits}
 use Rattle.rings.specs.ByteLaws.{row_at, row_column, row_place, read_start, read_more, read_all}
 use native.Mathlib.Omega.{arith}
-use borrow.Author.Rules.{rules}
 use Rattle.rings.proofs.far.read_plane.Goals as goal
 
 pub loop-y-init : goal.loop-y-init

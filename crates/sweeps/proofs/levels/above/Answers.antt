@@ -1,4 +1,4 @@
-use Rattle.std.proofs.Common.{◌+◌, arith, rules, ltb-false, ltb-true}
+use Rattle.std.proofs.Common.{◌+◌, arith, ltb-false, ltb-true}
 use Rattle.sweeps.proofs.levels.above.Goals as goal
 
 pub returns : goal.returns

@@ -1,4 +1,4 @@
-use Rattle.std.proofs.Common.{arith, rules}
+use Rattle.std.proofs.Common.{arith}
 use Rattle.sweeps.specs.Relaxing.{level_wraps}
 use Rattle.sweeps.proofs.levels.level_of.Goals as goal
 

@@ -1,5 +1,4 @@
 use Rattle.sweeps.specs.MarkLaws.{cleared, cleared_less}
-use Rattle.std.proofs.Common.{rules}
 use Rattle.sweeps.proofs.marks.clear_bit.Goals as goal
 
 pub returns : goal.returns

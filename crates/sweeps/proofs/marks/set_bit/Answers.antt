@@ -1,5 +1,4 @@
 use Rattle.sweeps.specs.MarkLaws.{lit}
-use Rattle.std.proofs.Common.{rules}
 use Rattle.sweeps.proofs.marks.set_bit.Goals as goal
 
 pub returns : goal.returns

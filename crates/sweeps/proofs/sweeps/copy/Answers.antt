@@ -1,4 +1,4 @@
-use Rattle.std.proofs.Common.{◌≡◌, ℕ, ◌-◌, ◌<◌, ◌≤◌, length, get_or, refl, ◌∙◌, arith, length-set, ext_get_or, rules}
+use Rattle.std.proofs.Common.{refl, ◌∙◌, arith, length-set, ext_get_or}
 use Rattle.sweeps.specs.SweepLaws.{copy_more}
 use Rattle.sweeps.proofs.sweeps.copy.Goals as goal
 

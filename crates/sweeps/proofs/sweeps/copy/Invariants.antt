@@ -1,5 +1,4 @@
-use Rattle.std.proofs.Common.{◌≡◌, ℕ, ◌-◌, ◌<◌, ◌≤◌, length, get_or, refl, ◌∙◌, arith, length-set, ext_get_or, rules}
-use Rattle.sweeps.specs.SweepLaws.{copy_more}
+use Rattle.std.proofs.Common.{◌≡◌, ℕ, ◌-◌, ◌<◌, ◌≤◌, length, get_or}
 use Rattle.sweeps.proofs.sweeps.copy.Given as goal
 
 abbrev pub invariant-loop-i : goal.invariant-loop-i

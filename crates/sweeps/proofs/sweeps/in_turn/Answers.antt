@@ -1,4 +1,4 @@
-use Rattle.std.proofs.Common.{Bool, sym, ap, rules}
+use Rattle.std.proofs.Common.{Bool, sym, ap}
 use Rattle.sweeps.specs.Telling.{turned}
 use Rattle.sweeps.proofs.sweeps.in_turn.Goals as goal
 

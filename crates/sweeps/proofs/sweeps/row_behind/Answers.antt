@@ -1,4 +1,4 @@
-use Rattle.std.proofs.Common.{Bool, sym, ap, rules}
+use Rattle.std.proofs.Common.{Bool, sym, ap}
 use Rattle.sweeps.specs.Telling.{behind_row}
 use Rattle.sweeps.proofs.sweeps.row_behind.Goals as goal
 

@@ -1,7 +1,5 @@
 use Rattle.std.proofs.Common.{ℕ, List, sym, ◌∙◌, subst, arith}
-use borrow.Author.Tests.{not-true, not-false}
 use Rattle.sweeps.specs.Marks.{SweepPlanes, Onward}
-use Rattle.sweeps.specs.Rings.{sum_by, level}
 use Rattle.sweeps.specs.SweepLaws.{settled, onward_none, onward_then}
 use Rattle.sweeps.proofs.sweeps.settle.Goals as goal
 

@@ -1,8 +1,5 @@
-use Rattle.std.proofs.Common.{◌≡◌, ℕ, ◌+◌, ◌*◌, ◌<◌, ◌≤◌, true, false, sym, refl, ◌∙◌, inl, inr, arith, rules}
-use Rattle.words.specs.Words.{word_bit}
-use Rattle.sweeps.specs.Marks.{SweepPlanes, Onward}
-use Rattle.sweeps.specs.Telling.{Falls, Nearby}
-use Rattle.sweeps.specs.SweepLaws.{work, visit_less, mark_on, clean_more, around_clean, around_near, near_then, falls_then, framed_clean, onward_none, onward_then}
+use Rattle.std.proofs.Common.{◌+◌, ◌*◌, sym, refl, ◌∙◌, inl, inr, arith}
+use Rattle.sweeps.specs.SweepLaws.{visit_less, mark_on, clean_more, around_clean, around_near, near_then, falls_then, framed_clean, onward_none, onward_then}
 use Rattle.sweeps.proofs.sweeps.settle_row.Goals as goal
 
 pub overflow_add-i : goal.overflow_add-i

@@ -1,7 +1,6 @@
-use Rattle.std.proofs.Common.{◌+◌, ◌-◌, ◌≤◌, sym, ◌∙◌, arith, rules}
+use Rattle.std.proofs.Common.{◌+◌, sym, ◌∙◌, arith}
 use Rattle.words.specs.Words.{column}
-use Rattle.sweeps.specs.Marks.{SweepPlanes, Onward}
-use Rattle.sweeps.specs.SweepLaws.{Swept, swept_none, swept_on, swept_still, swept_back, swept_all, none_clean, turned_in, behind_in, onward_none, onward_then}
+use Rattle.sweeps.specs.SweepLaws.{swept_none, swept_on, swept_still, swept_back, swept_all, none_clean, turned_in, behind_in, onward_none, onward_then}
 use Rattle.sweeps.proofs.sweeps.sweep.Goals as goal
 
 pub loop-r-init : goal.loop-r-init

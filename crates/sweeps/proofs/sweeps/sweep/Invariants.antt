@@ -1,7 +1,6 @@
-use Rattle.std.proofs.Common.{◌+◌, ◌-◌, ◌≤◌, sym, ◌∙◌, arith, rules}
-use Rattle.words.specs.Words.{column}
+use Rattle.std.proofs.Common.{◌-◌, ◌≤◌}
 use Rattle.sweeps.specs.Marks.{SweepPlanes, Onward}
-use Rattle.sweeps.specs.SweepLaws.{Swept, swept_none, swept_on, swept_still, swept_back, swept_all, none_clean, turned_in, behind_in, onward_none, onward_then}
+use Rattle.sweeps.specs.SweepLaws.{Swept}
 use Rattle.sweeps.proofs.sweeps.sweep.Given as goal
 
 abbrev pub invariant-loop-r : goal.invariant-loop-r

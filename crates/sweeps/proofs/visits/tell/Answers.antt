@@ -1,5 +1,5 @@
-use Rattle.std.proofs.Common.{arith, rules}
-use Rattle.sweeps.specs.TellLaws.{TellingWord, telling_none, telling_more, telling_all}
+use Rattle.std.proofs.Common.{arith}
+use Rattle.sweeps.specs.TellLaws.{telling_none, telling_more, telling_all}
 use Rattle.sweeps.proofs.visits.tell.Goals as goal
 
 pub bounds-cand-i : goal.bounds-cand-i

@@ -1,5 +1,4 @@
-use Rattle.std.proofs.Common.{arith, rules}
-use Rattle.sweeps.specs.TellLaws.{TellingWord, telling_none, telling_more, telling_all}
+use Rattle.sweeps.specs.TellLaws.{TellingWord}
 use Rattle.sweeps.proofs.visits.tell.Given as goal
 
 abbrev pub invariant-loop-left : goal.invariant-loop-left

@@ -1,4 +1,4 @@
-use Rattle.std.proofs.Common.{◌+◌, ap, arith, get_or-set_same, rules}
+use Rattle.std.proofs.Common.{◌+◌, ap, arith, get_or-set_same}
 use Rattle.sweeps.specs.Rings.{level}
 use Rattle.sweeps.specs.Relaxing.{level_pos}
 use Rattle.sweeps.specs.Telling.{none, more}

@@ -1,4 +1,4 @@
-use Rattle.std.proofs.Common.{arith, rules}
+use Rattle.std.proofs.Common.{arith}
 use Rattle.sweeps.specs.Telling.{none}
 use Rattle.sweeps.specs.TellLaws.{lowers_then, told_still, meant_none}
 use Rattle.sweeps.proofs.visits.tell_rows.Goals as goal

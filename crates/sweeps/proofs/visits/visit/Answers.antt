@@ -1,4 +1,4 @@
-use Rattle.std.proofs.Common.{◌≡◌, ℕ, ◌+◌, ◌-◌, ◌*◌, ◌^◌, refl, ap, ◌∙◌, subst, arith, rules}
+use Rattle.std.proofs.Common.{◌≡◌, ℕ, ◌+◌, ◌-◌, ◌*◌, ◌^◌, refl, ap, ◌∙◌, subst, arith}
 use lib.Bits.{and_le_l}
 use Rattle.words.specs.Words.{word_bit}
 use Rattle.planes.specs.Scratch.{spot}

@@ -3,7 +3,6 @@ use borrow.Author.Tests.{leb-true}
 use Prim.Native.Nat.{◌-◌}
 use mathlib.Core.Path.{refl}
 use native.Mathlib.Omega.{arith}
-use borrow.Author.Rules.{rules}
 use Rattle.waves.proofs.rows.many.Goals as goal
 
 pub returns-then-not-quarters : goal.returns-then-not-quarters

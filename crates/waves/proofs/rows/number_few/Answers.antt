@@ -2,7 +2,6 @@ use mathlib.Core.Path.{refl, ◌∙◌}
 use Rattle.words.specs.Words.{column}
 use Rattle.waves.specs.RowLaws.{word_room, four_numbers}
 use native.Mathlib.Omega.{arith}
-use borrow.Author.Rules.{rules}
 use Rattle.waves.proofs.rows.number_few.Goals as goal
 
 pub number-requires : goal.number-requires

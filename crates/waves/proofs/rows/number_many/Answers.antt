@@ -1,7 +1,6 @@
 use Rattle.words.specs.Words.{column}
 use Rattle.waves.specs.RowLaws.{four_numbers}
 use native.Mathlib.Omega.{arith}
-use borrow.Author.Rules.{rules}
 use Rattle.waves.proofs.rows.number_many.Goals as goal
 
 pub eights-requires : goal.eights-requires

@@ -1,4 +1,3 @@
-use borrow.Author.Rules.{rules}
 use Rattle.waves.proofs.rows.number_row.Goals as goal
 
 pub number_many-requires : goal.number_many-requires

@@ -1,10 +1,8 @@
-use Rattle.laws.specs.Tests.{not_out}
 use mathlib.Core.Path.{sym, ◌∙◌}
 use Rattle.words.specs.Words.{column}
 use Rattle.planes.specs.PlaneLaws.{column_in, fresh_in}
 use Rattle.waves.specs.RowLaws.{row_done, row_kept, row_waved, plane_row}
 use native.Mathlib.Omega.{arith}
-use borrow.Author.Rules.{rules}
 use Rattle.waves.proofs.rows.wave_row.Goals as goal
 
 pub returns-then-not-any : goal.returns-then-not-any

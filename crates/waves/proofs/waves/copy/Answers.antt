@@ -1,8 +1,6 @@
-use mathlib.Core.Path.{◌≡◌, refl, ◌∙◌}
-use Prim.Native.Nat.{◌+◌, ◌-◌, ◌≤◌}
-use lib.ListN.{length}
-use Rattle.words.specs.Words.{word_bit, column}
-use Rattle.waves.specs.Rows.{Upto}
+use mathlib.Core.Path.{refl, ◌∙◌}
+use Prim.Native.Nat.{◌+◌}
+use Rattle.words.specs.Words.{column}
 use Rattle.waves.specs.RowLaws.{copy_start, copy_more, copy_all}
 use native.Mathlib.Omega.{arith}
 use Rattle.waves.proofs.waves.copy.Goals as goal

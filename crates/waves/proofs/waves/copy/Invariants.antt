@@ -1,10 +1,8 @@
-use mathlib.Core.Path.{◌≡◌, refl, ◌∙◌}
-use Prim.Native.Nat.{◌+◌, ◌-◌, ◌≤◌}
+use mathlib.Core.Path.{◌≡◌}
+use Prim.Native.Nat.{◌-◌, ◌≤◌}
 use lib.ListN.{length}
-use Rattle.words.specs.Words.{word_bit, column}
+use Rattle.words.specs.Words.{word_bit}
 use Rattle.waves.specs.Rows.{Upto}
-use Rattle.waves.specs.RowLaws.{copy_start, copy_more, copy_all}
-use native.Mathlib.Omega.{arith}
 use Rattle.waves.proofs.waves.copy.Given as goal
 
 abbrev pub invariant-loop-y : goal.invariant-loop-y

@@ -1,16 +1,12 @@
-use mathlib.Core.Path.{◌≡◌, refl, sym, ap, ◌∙◌}
-use mathlib.Core.Bool.{Bool, false, not, ◌&&◌}
-use Prim.Native.Nat.{ℕ, ◌+◌, ◌-◌, ◌*◌, ◌<◌, ◌≤◌}
-use lib.ListN.{length}
+use mathlib.Core.Path.{refl, sym, ap, ◌∙◌}
+use mathlib.Core.Bool.{Bool, not, ◌&&◌}
+use Prim.Native.Nat.{◌+◌}
 use Rattle.laws.specs.Tests.{none_of}
-use Rattle.words.specs.Words.{word_bit}
 use Rattle.planes.specs.Scratch.{fresh}
 use Rattle.planes.specs.PlaneLaws.{fresh_none}
-use Rattle.waves.specs.Rows.{WaveTo}
 use Rattle.waves.specs.RowLaws.{none_before, row_room, wave_start, wave_more, wave_all}
 use Rattle.waves.specs.WaveLaws.{to_room, afloat_next, none_so_far, done_so_far, still_new, still_left}
 use native.Mathlib.Omega.{arith}
-use borrow.Author.Rules.{rules}
 use Rattle.waves.proofs.waves.wave.Goals as goal
 
 pub bounds-ahead-0 : goal.bounds-ahead-0

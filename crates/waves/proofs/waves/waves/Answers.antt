@@ -1,11 +1,7 @@
 use mathlib.Core.Path.{refl, sym, ◌∙◌}
-use Prim.Native.Nat.{◌+◌, ◌-◌, ◌<◌, ◌≤◌}
-use Rattle.rules.specs.Images.{Plane}
-use Rattle.waves.specs.Rows.{Room}
-use Rattle.waves.specs.Fronts.{WavePlanes, Waved}
+use Prim.Native.Nat.{◌+◌}
 use Rattle.waves.specs.WaveLaws.{waved_on, waved_same, afloat_old, afloat_same, room_same}
 use native.Mathlib.Omega.{arith}
-use borrow.Author.Rules.{rules}
 use Rattle.waves.proofs.waves.waves.Goals as goal
 
 pub loop-n-init : goal.loop-n-init

@@ -1,9 +1,6 @@
-use Prim.Native.Nat.{◌-◌, ◌*◌, ◌≤◌}
 use mathlib.Core.Path.{◌≡◌}
 use native.Mathlib.Omega.{arith}
-use borrow.Author.Rules.{rules}
-use Rattle.words.specs.WordLaws.{Leading, leading_none, leading_more, leading_part}
-use Rattle.image.specs.Scratch.{bit_of}
+use Rattle.words.specs.WordLaws.{leading_none, leading_more, leading_part}
 use Rattle.words.proofs.bytes.part.Goals as goal
 
 pub loop-k-init : goal.loop-k-init

@@ -1,8 +1,5 @@
 use Prim.Native.Nat.{◌-◌, ◌*◌, ◌≤◌}
-use mathlib.Core.Path.{◌≡◌}
-use native.Mathlib.Omega.{arith}
-use borrow.Author.Rules.{rules}
-use Rattle.words.specs.WordLaws.{Leading, leading_none, leading_more, leading_part}
+use Rattle.words.specs.WordLaws.{Leading}
 use Rattle.image.specs.Scratch.{bit_of}
 use Rattle.words.proofs.bytes.part.Given as goal
 

@@ -1,9 +1,6 @@
 use mathlib.Core.Path.{◌≡◌}
-use Prim.Native.Nat.{◌+◌, ◌-◌, ◌*◌, ◌≤◌}
 use native.Mathlib.Omega.{arith}
-use borrow.Author.Rules.{rules}
-use Rattle.words.specs.Words.{bit_of_word}
-use Rattle.words.specs.WordLaws.{Filling, filling_all, filling_from, put_more, within_bytes}
+use Rattle.words.specs.WordLaws.{filling_all, filling_from, put_more, within_bytes}
 use Rattle.words.proofs.bytes.put.Goals as goal
 
 pub loop-k-init : goal.loop-k-init

@@ -1,9 +1,6 @@
 use mathlib.Core.Path.{◌≡◌}
-use Prim.Native.Nat.{◌-◌, ◌*◌, ◌≤◌}
 use native.Mathlib.Omega.{arith}
-use borrow.Author.Rules.{rules}
-use Rattle.words.specs.WordLaws.{Leading, leading_none, leading_more, leading_all}
-use Rattle.image.specs.Scratch.{bit_of}
+use Rattle.words.specs.WordLaws.{leading_none, leading_more, leading_all}
 use Rattle.words.proofs.bytes.word.Goals as goal
 
 pub loop-k-init : goal.loop-k-init

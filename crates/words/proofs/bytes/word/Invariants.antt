@@ -1,8 +1,5 @@
-use mathlib.Core.Path.{◌≡◌}
 use Prim.Native.Nat.{◌-◌, ◌*◌, ◌≤◌}
-use native.Mathlib.Omega.{arith}
-use borrow.Author.Rules.{rules}
-use Rattle.words.specs.WordLaws.{Leading, leading_none, leading_more, leading_all}
+use Rattle.words.specs.WordLaws.{Leading}
 use Rattle.image.specs.Scratch.{bit_of}
 use Rattle.words.proofs.bytes.word.Given as goal
 

@@ -1,6 +1,5 @@
 use Rattle.words.specs.OneLaws.{byte_bit}
 use native.Mathlib.Omega.{arith}
-use borrow.Author.Rules.{rules}
 use Rattle.words.proofs.ones.byte.Goals as goal
 
 pub returns : goal.returns

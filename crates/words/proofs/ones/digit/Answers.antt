@@ -1,5 +1,4 @@
 use Rattle.words.specs.OneLaws.{digit_one, digit_none}
-use borrow.Author.Rules.{rules}
 use Rattle.words.proofs.ones.digit.Goals as goal
 
 pub returns-then-set : goal.returns-then-set

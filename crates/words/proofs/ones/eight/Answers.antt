@@ -1,12 +1,11 @@
 use Rattle.words.specs.OneLaws.{placed_same}
 use Rattle.image.specs.Bits.{stored_more}
 use lib.Dec.{eqb}
-use lib.ListN.{length, get_or, length-set}
-use Prim.Native.Nat.{ℕ, ◌+◌, ◌≤◌, ◌<◌, ◌-◌}
+use lib.ListN.{get_or, length-set}
+use Prim.Native.Nat.{◌+◌}
 use mathlib.Core.Bool.{cond}
 use mathlib.Core.Path.{◌≡◌, refl}
 use native.Mathlib.Omega.{arith}
-use borrow.Author.Rules.{rules}
 use Rattle.words.proofs.ones.eight.Goals as goal
 
 pub loop-k-init : goal.loop-k-init

@@ -1,12 +1,8 @@
-use Rattle.words.specs.OneLaws.{placed_same}
-use Rattle.image.specs.Bits.{stored_more}
 use lib.Dec.{eqb}
-use lib.ListN.{length, get_or, length-set}
+use lib.ListN.{length, get_or}
 use Prim.Native.Nat.{ℕ, ◌+◌, ◌≤◌, ◌<◌, ◌-◌}
 use mathlib.Core.Bool.{cond}
-use mathlib.Core.Path.{◌≡◌, refl}
-use native.Mathlib.Omega.{arith}
-use borrow.Author.Rules.{rules}
+use mathlib.Core.Path.{◌≡◌}
 use Rattle.words.proofs.ones.eight.Given as goal
 
 abbrev pub invariant-loop-k : goal.invariant-loop-k

@@ -1,10 +1,7 @@
-use Rattle.words.specs.OneLaws.{placed_none, Wanted, eights_more, eights_all}
-use Rattle.words.specs.Words.{Placed}
-use lib.ListN.{length}
-use Prim.Native.Nat.{◌*◌, ◌≤◌, ◌-◌}
+use Rattle.words.specs.OneLaws.{placed_none, eights_more, eights_all}
+use Prim.Native.Nat.{◌*◌}
 use mathlib.Core.Path.{◌≡◌, refl, ◌∙◌}
 use native.Mathlib.Omega.{arith}
-use borrow.Author.Rules.{rules}
 use Rattle.words.proofs.ones.eights.Goals as goal
 
 pub loop-b-init : goal.loop-b-init

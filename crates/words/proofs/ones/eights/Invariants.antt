@@ -1,10 +1,8 @@
-use Rattle.words.specs.OneLaws.{placed_none, Wanted, eights_more, eights_all}
+use Rattle.words.specs.OneLaws.{Wanted}
 use Rattle.words.specs.Words.{Placed}
 use lib.ListN.{length}
 use Prim.Native.Nat.{◌*◌, ◌≤◌, ◌-◌}
-use mathlib.Core.Path.{◌≡◌, refl, ◌∙◌}
-use native.Mathlib.Omega.{arith}
-use borrow.Author.Rules.{rules}
+use mathlib.Core.Path.{◌≡◌}
 use Rattle.words.proofs.ones.eights.Given as goal
 
 abbrev pub invariant-loop-b : goal.invariant-loop-b

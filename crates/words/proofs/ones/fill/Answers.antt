@@ -1,11 +1,10 @@
 use Rattle.image.specs.Bits.{stored_more}
 use Rattle.rules.specs.Images.{bit_at}
 use Rattle.rules.specs.Tools.{bit}
-use lib.ListN.{length, get_or, length-set}
-use Prim.Native.Nat.{ℕ, ◌≤◌, ◌<◌, ◌-◌, ◌/◌, ◌%◌}
+use lib.ListN.{length-set}
+use Prim.Native.Nat.{◌/◌, ◌%◌}
 use mathlib.Core.Path.{◌≡◌}
 use native.Mathlib.Omega.{arith}
-use borrow.Author.Rules.{rules}
 use Rattle.words.proofs.ones.fill.Goals as goal
 
 pub loop-i-init : goal.loop-i-init

@@ -1,11 +1,8 @@
-use Rattle.image.specs.Bits.{stored_more}
 use Rattle.rules.specs.Images.{bit_at}
 use Rattle.rules.specs.Tools.{bit}
-use lib.ListN.{length, get_or, length-set}
+use lib.ListN.{length, get_or}
 use Prim.Native.Nat.{ℕ, ◌≤◌, ◌<◌, ◌-◌, ◌/◌, ◌%◌}
 use mathlib.Core.Path.{◌≡◌}
-use native.Mathlib.Omega.{arith}
-use borrow.Author.Rules.{rules}
 use Rattle.words.proofs.ones.fill.Given as goal
 
 abbrev pub invariant-loop-i : goal.invariant-loop-i

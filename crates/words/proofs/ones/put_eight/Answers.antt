@@ -1,10 +1,7 @@
 use Rattle.words.specs.OneLaws.{placed_none, placed_more}
-use Rattle.words.specs.Words.{Placed}
-use lib.ListN.{length, get_or, length-set}
-use Prim.Native.Nat.{◌≤◌, ◌-◌}
+use lib.ListN.{length-set}
 use mathlib.Core.Path.{◌≡◌, refl}
 use native.Mathlib.Omega.{arith}
-use borrow.Author.Rules.{rules}
 use Rattle.words.proofs.ones.put_eight.Goals as goal
 
 pub loop-k-init : goal.loop-k-init

@@ -1,10 +1,7 @@
-use Rattle.words.specs.OneLaws.{placed_none, placed_more}
 use Rattle.words.specs.Words.{Placed}
-use lib.ListN.{length, get_or, length-set}
+use lib.ListN.{length, get_or}
 use Prim.Native.Nat.{◌≤◌, ◌-◌}
-use mathlib.Core.Path.{◌≡◌, refl}
-use native.Mathlib.Omega.{arith}
-use borrow.Author.Rules.{rules}
+use mathlib.Core.Path.{◌≡◌}
 use Rattle.words.proofs.ones.put_eight.Given as goal
 
 abbrev pub invariant-loop-k : goal.invariant-loop-k

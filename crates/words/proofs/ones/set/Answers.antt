@@ -1,4 +1,3 @@
-use borrow.Author.Rules.{rules}
 use lib.Bits.{and_mask}
 use Rattle.rules.specs.Images.{bit_at}
 use Rattle.words.proofs.ones.set.Goals as goal

@@ -1,6 +1,5 @@
 use Rattle.words.specs.Words.{column}
 use Rattle.words.specs.CountLaws.{row_count}
-use borrow.Author.Rules.{rules}
 use Rattle.words.proofs.rows.count.Goals as goal
 
 pub returns : goal.returns

@@ -1,7 +1,6 @@
 use Rattle.words.specs.Words.{column}
 use Rattle.words.specs.RowLaws.{columns}
 use native.Mathlib.Omega.{arith}
-use borrow.Author.Rules.{rules}
 use borrow.Author.Tests.{le-ltb}
 use Rattle.words.proofs.rows.full.Goals as goal
 

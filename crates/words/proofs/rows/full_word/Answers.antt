@@ -1,6 +1,5 @@
 use Rattle.words.specs.WordLaws.{full_none, full_all, full_part}
 use native.Mathlib.Omega.{arith}
-use borrow.Author.Rules.{rules}
 use Rattle.words.proofs.rows.full_word.Goals as goal
 
 pub returns-then-w-b : goal.returns-then-w-b

@@ -1,6 +1,5 @@
 use Rattle.words.specs.Words.{column}
 use Rattle.words.specs.RowLaws.{row_got}
-use borrow.Author.Rules.{rules}
 use Rattle.words.proofs.rows.get.Goals as goal
 
 pub returns : goal.returns

@@ -1,5 +1,4 @@
 use Rattle.words.specs.Words.{column}
-use borrow.Author.Rules.{rules}
 use Rattle.words.proofs.rows.lay.Goals as goal
 
 pub returns : goal.returns

@@ -1,5 +1,4 @@
 use Rattle.words.specs.RowLaws.{none_laid}
-use borrow.Author.Rules.{rules}
 use Rattle.words.proofs.rows.lay_word.Goals as goal
 
 pub returns-then-x-eq0 : goal.returns-then-x-eq0

@@ -1,5 +1,4 @@
 use Rattle.words.specs.RowLaws.{row_laid}
-use borrow.Author.Rules.{rules}
 use Rattle.words.proofs.rows.lay_words.Goals as goal
 
 pub returns : goal.returns

@@ -2,7 +2,6 @@ use native.Mathlib.Omega.{arith}
 use Rattle.words.specs.Words.{column}
 use Rattle.words.specs.RowLaws.{columns, part_end_lem}
 use Rattle.words.specs.WordLaws.{none_row}
-use borrow.Author.Rules.{rules}
 use Rattle.words.proofs.rows.read_short.Goals as goal
 
 pub returns-then-n-le16 : goal.returns-then-n-le16

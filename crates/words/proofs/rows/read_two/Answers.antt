@@ -1,4 +1,3 @@
-use borrow.Author.Rules.{rules}
 use Rattle.words.proofs.rows.read_two.Goals as goal
 
 pub returns-then-n-eq32 : goal.returns-then-n-eq32

@@ -1,5 +1,4 @@
 use Rattle.words.specs.RowLaws.{spread_word}
-use borrow.Author.Rules.{rules}
 use Rattle.words.proofs.rows.spread.Goals as goal
 
 pub returns : goal.returns

@@ -1,5 +1,4 @@
 use Rattle.words.specs.RowLaws.{part_taken, none_taken}
-use borrow.Author.Rules.{rules}
 use Rattle.words.proofs.rows.take_word.Goals as goal
 
 pub returns-then-x-eq0 : goal.returns-then-x-eq0

@@ -1,5 +1,4 @@
 use Rattle.words.specs.RowLaws.{row_taken}
-use borrow.Author.Rules.{rules}
 use Rattle.words.proofs.rows.take_words.Goals as goal
 
 pub returns : goal.returns

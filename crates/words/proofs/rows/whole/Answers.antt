@@ -2,7 +2,6 @@ use Rattle.words.specs.Words.{column}
 use Rattle.words.specs.RowLaws.{columns, part_end_lem}
 use Rattle.words.specs.WordLaws.{whole_row, first_word}
 use native.Mathlib.Omega.{arith}
-use borrow.Author.Rules.{rules}
 use Rattle.words.proofs.rows.whole.Goals as goal
 
 pub returns : goal.returns

@@ -1,6 +1,5 @@
 use Rattle.words.specs.Words.{column}
 use Rattle.words.specs.RowLaws.{rows_wide}
-use borrow.Author.Rules.{rules}
 use Rattle.words.proofs.rows.wide_words.Goals as goal
 
 pub returns : goal.returns

@@ -3,7 +3,6 @@ use Prim.Native.Nat.{ℕ}
 use Rattle.words.specs.Words.{column, Widened}
 use Rattle.words.specs.RowLaws.{widened_none, widened_more, column_end}
 use native.Mathlib.Omega.{arith}
-use borrow.Author.Rules.{rules}
 use Rattle.words.proofs.rows.widen.Goals as goal
 
 pub returns-then-by-eq0 : goal.returns-then-by-eq0

@@ -1,10 +1,7 @@
-use mathlib.Core.Path.{◌≡◌, subst}
+use mathlib.Core.Path.{◌≡◌}
 use mathlib.Core.Bool.{Bool, false}
 use Prim.Native.Nat.{ℕ, ◌-◌, ◌≤◌}
 use Rattle.words.specs.Words.{column, Widened}
-use Rattle.words.specs.RowLaws.{widened_more, column_end}
-use native.Mathlib.Omega.{arith}
-use borrow.Author.Rules.{rules}
 use Rattle.words.proofs.rows.widen_on.Given as goal
 
 abbrev pub invariant-loop-done : goal.invariant-loop-done

@@ -1,6 +1,5 @@
 use Rattle.words.specs.WordLaws.{whole_row, part_row, none_row}
 use native.Mathlib.Omega.{arith}
-use borrow.Author.Rules.{rules}
 use Rattle.words.proofs.rows.word_of.Goals as goal
 
 pub returns-then-b-n : goal.returns-then-b-n

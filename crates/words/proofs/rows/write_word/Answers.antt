@@ -2,7 +2,6 @@ use mathlib.Core.Path.{◌≡◌}
 use Prim.Native.Nat.{min, ◌+◌, ◌-◌, ◌*◌}
 use Rattle.words.specs.RowLaws.{within_none}
 use native.Mathlib.Omega.{arith}
-use borrow.Author.Rules.{rules}
 use Rattle.words.proofs.rows.write_word.Goals as goal
 
 pub returns-then-b-n : goal.returns-then-b-n

@@ -1,5 +1,4 @@
 use Rattle.words.specs.SingleLaws.{one_bit}
-use borrow.Author.Rules.{rules}
 use Rattle.words.proofs.single.bit.Goals as goal
 
 pub returns : goal.returns

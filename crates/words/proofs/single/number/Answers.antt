@@ -1,6 +1,5 @@
-use Rattle.words.specs.SingleLaws.{Numbering, numbering_none, numbering_more, numbering_all}
+use Rattle.words.specs.SingleLaws.{numbering_none, numbering_more, numbering_all}
 use native.Mathlib.Omega.{arith}
-use borrow.Author.Rules.{rules}
 use Rattle.words.proofs.single.number.Goals as goal
 
 pub loop-left-init : goal.loop-left-init

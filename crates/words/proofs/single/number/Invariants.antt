@@ -1,6 +1,4 @@
-use Rattle.words.specs.SingleLaws.{Numbering, numbering_none, numbering_more, numbering_all}
-use native.Mathlib.Omega.{arith}
-use borrow.Author.Rules.{rules}
+use Rattle.words.specs.SingleLaws.{Numbering}
 use Rattle.words.proofs.single.number.Given as goal
 
 abbrev pub invariant-loop-left : goal.invariant-loop-left

@@ -1,5 +1,4 @@
 use Rattle.words.specs.SingleLaws.{without_last_lem}
-use borrow.Author.Rules.{rules}
 use Rattle.words.proofs.single.without_last.Goals as goal
 
 pub returns : goal.returns
