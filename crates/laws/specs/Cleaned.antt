@@ -11,7 +11,7 @@ use borrow.Author.Tests.{eqb-false, ltb-true, ltb-false}
 use Rattle.rules.specs.Images.{Plane, Stack, Rings, row_bytes, pixel, bytes_of}
 use Rattle.rules.specs.Reach.{square}
 use Rattle.rules.specs.Planning.{shadow, excused, planned, empty, region_subtraction, planned_rings, planned_bytes}
-use Rattle.rules.specs.Cleaning.{disc_of, closed, cleaned_under, cleaned, cleaned_bytes, region_subtraction_fDM}
+use Rattle.rules.specs.Cleaning.{disc_of, closed, cleaned_under, cleaned, cleaned_bytes, region_subtraction_fdm}
 use Rattle.rules.specs.Judging.{verdict_of}
 use Rattle.rules.specs.Demands.{Excused, Sound}
 use Rattle.rules.specs.declared.Judged.TheVariants.{Accepted}
@@ -122,9 +122,9 @@ module _ (w h n d : ℕ) (q : ℕ → ℕ) (part : Stack) where
           (λ z. z)
 
   -- F(i) is what Algorithm 3 makes of the layers, of S(i+1) and of F(i+1)
-  pub region_subtraction_fdm : (i p : ℕ) → suc i < n → p < h * w → F i p ≡ region_subtraction_fDM w h (q i) d (part i) (part (suc i)) (planned_support (suc i)) (F (suc i)) p
-  unfolding region_subtraction_fDM
-  region_subtraction_fdm i p l lp =
+  pub region_subtraction_fdm_lem : (i p : ℕ) → suc i < n → p < h * w → F i p ≡ region_subtraction_fdm w h (q i) d (part i) (part (suc i)) (planned_support (suc i)) (F (suc i)) p
+  unfolding region_subtraction_fdm
+  region_subtraction_fdm_lem i p l lp =
       let R : Plane = region_subtraction w h (q i) (part i) (part (suc i)) (planned_support (suc i)) in
       let c : closed w h d (planned_support i) p ≡ closed w h d R p = closed_same w h d (planned_support i) R (λ o lo. region_subtraction_lem w h n q part i o l lo) p lp in
       let e : excused ring i p ≡ (shadow (part i) (part (suc i)) p && not (R p)) =

@@ -1,4 +1,4 @@
--- Roots and discs: the floor-root rule, and what a half_width_lem says of distances.
+-- Roots and discs: the floor-root rule, and what a half-width says of distances.
 use Rattle.std.specs.Prelude.{◌≡◌, refl, Bool, true, List, ◌++◌, ℕ, zero, suc, ◌+◌, ◌-◌, ◌*◌, ◌≤◌, ◌<◌, leb, ltb, length, get_or, set, replicate}
 use Rattle.std.proofs.Common.{sym, subst, ◌∙◌, mul-le-mul, suc-mul, mul-suc, arith, length-set, get_or-set_same, get_or-set_other, get_or-append-add, leb-true, leb-false, le-leb, ltb-true, ltb-false}
 use Rattle.std.proofs.lemmas.List.{length-replicate, get_or-replicate}

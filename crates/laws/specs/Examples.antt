@@ -6,7 +6,7 @@ use Rattle.rules.specs.Images.{Rings, within, sized, row_bytes, bit_at, pixel, r
 use Rattle.rules.specs.Reach.{settable, reach_of, square, bound_by, bound_of, apart, distance², root, half_width}
 use Rattle.rules.specs.Planning.{shadow, near, seeds, reached, touch, source, touching, fits, grow, grown, ring_plane, rings, excused, support_under, top_of}
 use Rattle.rules.specs.Planning.{planned, empty, planned_rings, planned_bytes, dilated, swallowed, growing_swallow, region_subtraction}
-use Rattle.rules.specs.Cleaning.{disc_of, eroded, closed, cleaned_under, cleaned, cleaned_bytes, region_subtraction_fDM}
+use Rattle.rules.specs.Cleaning.{disc_of, eroded, closed, cleaned_under, cleaned, cleaned_bytes, region_subtraction_fdm}
 use Rattle.rules.specs.Judging.{overlap, bad_ring, unheld, unheld_number, first_in, place_of, tell, verdict, verdict_of}
 use Rattle.rules.specs.Jobs.{Job, be16, be32, put16, put32, get16s, put16s, head_end, part_end, support_count, support_end, ring_count, job_end, settings_in, stored_in}
 use Rattle.rules.specs.Jobs.{part_in, support_in, rings_stored, layout_of, stored_rows, file_of, file_length}
@@ -174,11 +174,11 @@ closes_discs = refl
 
 -- Algorithm 3 of the chapter, by itself: the lower layer of piece r, and that of piece n with cleaned support above
 pub algorithm_3 :
-    each 0 8 (region_subtraction_fDM 8 1 1 4 (bit_at 0x10) (bit_at 0xF7) (λ p. false) (λ p. false))
-    ∷ each 0 8 (region_subtraction_fDM 8 1 1 0 (bit_at 0x00) (bit_at 0xE7) (λ p. false) (bit_at 0x10))
+    each 0 8 (region_subtraction_fdm 8 1 1 4 (bit_at 0x10) (bit_at 0xF7) (λ p. false) (λ p. false))
+    ∷ each 0 8 (region_subtraction_fdm 8 1 1 0 (bit_at 0x00) (bit_at 0xE7) (λ p. false) (bit_at 0x10))
     ∷ []
     ≡ each 0 8 (bit_at 0xCF) ∷ each 0 8 (bit_at 0xF7) ∷ []
-unfolding some each bit_at square apart distance² shadow near touch touching dilated swallowed growing_swallow region_subtraction eroded closed region_subtraction_fDM
+unfolding some each bit_at square apart distance² shadow near touch touching dilated swallowed growing_swallow region_subtraction eroded closed region_subtraction_fdm
 algorithm_3 = refl
 
 pub clean_says : Settings → ℕ → List ℕ → ℕ → ℕ → ℕ → List ℕ

@@ -12,7 +12,7 @@ use Rattle.rules.specs.Tools.{each}
 use Rattle.rules.specs.Images.{Plane, Stack}
 use Rattle.rules.specs.Planning.{shadow, seeds, near, reached, touch, Swallow, dilated, swallowed, growing_swallow}
 use Rattle.rules.specs.Demands.{Joined, start, onward}
-use Rattle.rules.specs.Posts.{left_by, gone_down, plane_of, listed, spared, scanned, region_subtraction_sLA}
+use Rattle.rules.specs.Posts.{left_by, gone_down, plane_of, listed, spared, scanned, region_subtraction_sla}
 use Rattle.laws.specs.Tests.{split, bool_eq, and_l, and_r, and_in, or_r, or_false, and_true, and_false, length_each, get_d_each, each_same}
 use Rattle.laws.specs.Growing.{ring, ring_joined, ring_fewest, joined_more}
 use Rattle.laws.specs.Chapter.{same_always}
@@ -192,9 +192,9 @@ module _ (w h n r : ℕ) (q : ℕ → ℕ) (part : Stack) where
         (λ p lp. swallow_apart w h r (plane_of (inner i)) (PA i) (λ o lo t. sym (inner_is o lo) ∙ down_apart w h n r part (rings_of w h n q part) i o l lo t) p (omega arith))
 
     -- the posts of a layer are Algorithm 4's, by its lines
-    pub region_subtraction_sla : (p : ℕ) → p < h * w → A i p ≡ region_subtraction_sLA w h (q i) r (part i) (part (suc i)) (A (suc i)) p
-    unfolding region_subtraction_sLA
-    region_subtraction_sla p lp =
+    pub region_subtraction_sla_lem : (p : ℕ) → p < h * w → A i p ≡ region_subtraction_sla w h (q i) r (part i) (part (suc i)) (A (suc i)) p
+    unfolding region_subtraction_sla
+    region_subtraction_sla_lem p lp =
         posts_step w h n r part (rings_of w h n q part) i l p lp
         ∙ below_is w h r (left_by part (rings_of w h n q part) i) (PA i) p lp
         ∙ rw outer_is (or_swap (PA i p) (listed (scanned w h r (h * w) (outer i)) p))

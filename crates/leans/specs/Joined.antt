@@ -82,19 +82,19 @@ step_at w h rings r c v y x (ly, (a, b)) (lx, (d, e)) is =
 
 module _ (w h : ℕ) (free first : Bool) (rings : List ℕ) (r c : ℕ) where
   pub good_none : get_or rings (r * w + c) 0 ≡ 0 → Good w h free first rings r c
-  good_none e = record { first_in_lem = λ o. absurd (omega arith); free_inside = λ l. absurd (omega arith); leans = λ l. absurd (omega arith) }
+  good_none e = record { first_inside = λ o. absurd (omega arith); free_inside = λ l. absurd (omega arith); leans = λ l. absurd (omega arith) }
 
   module _ (v : ℕ) (e : v ≡ get_or rings (r * w + c) 0) (b : Bool) (t : b ≡ true) where
     pub good_first : v ≡ 1 → b ≡ first → Good w h free first rings r c
-    good_first o eb = record { first_in_lem = λ _. sym eb ∙ t; free_inside = λ l. absurd (omega arith); leans = λ l. absurd (omega arith) }
+    good_first o eb = record { first_inside = λ _. sym eb ∙ t; free_inside = λ l. absurd (omega arith); leans = λ l. absurd (omega arith) }
 
     pub good_step : (v ≡ 1 → ⊥) → b ≡ free → Step w h rings r c (v - 1) → Good w h free first rings r c
-    good_step ne eb s = record { first_in_lem = λ o. absurd (ne (e ∙ o)); free_inside = λ _. sym eb ∙ t; leans = λ _. rw (← e) s }
+    good_step ne eb s = record { first_inside = λ o. absurd (ne (e ∙ o)); free_inside = λ _. sym eb ∙ t; leans = λ _. rw (← e) s }
 
   -- a ring that is 1 at a first pixel, and else 0
   pub good_bit : get_or rings (r * w + c) 0 ≡ bit first → Good w h free first rings r c
   good_bit e = record {
-    first_in_lem = λ o. bit_one first (sym e ∙ o);
+    first_inside = λ o. bit_one first (sym e ∙ o);
     free_inside = λ b. absurd (omega (arith, bit_small first));
     leans = λ b. absurd (omega (arith, bit_small first));
   }

@@ -18,7 +18,7 @@ pub record Step (w h : ℕ) (rings : List ℕ) (r c v : ℕ) : Type 0 where
 
 -- the ring in row r and column c is good: ring 1 where the pixel is one of the first, a larger one where it is free and can step on
 pub record Good (w h : ℕ) (free first : Bool) (rings : List ℕ) (r c : ℕ) : Type 0 where
-  pub first_in_lem : get_or rings (r * w + c) 0 ≡ 1 → first ≡ true
+  pub first_inside : get_or rings (r * w + c) 0 ≡ 1 → first ≡ true
   pub free_inside : 1 < get_or rings (r * w + c) 0 → free ≡ true
   pub leans : 1 < get_or rings (r * w + c) 0 → Step w h rings r c (get_or rings (r * w + c) 0 - 1)
 

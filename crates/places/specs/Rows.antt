@@ -32,16 +32,16 @@ pub apart_byte : (x y m : ℕ) → m ≡ bit_and x y → m ≡ 0 → (k : ℕ) �
 apart_byte x y m e z k l = sym (bit_and_lem x y k) ∙ no_bit (bit_and x y) k (sym e ∙ z)
 
 -- the byte of a pixel
-pub byte_of : (w h n p : ℕ) → n ≡ h * row_bytes w → p < h * w → p / w * row_bytes w + p % w / 8 < n
+pub byte_of_lem : (w h n p : ℕ) → n ≡ h * row_bytes w → p < h * w → p / w * row_bytes w + p % w / 8 < n
 unfolding row_bytes
-byte_of w h n p e l = let (lr, lc) = digits_in p h w l in rw e (digits_lt lr (omega arith))
+byte_of_lem w h n p e l = let (lr, lc) = digits_in p h w l in rw e (digits_lt lr (omega arith))
 
 pub apart_none : (part sup : List ℕ) (w h n : ℕ) → n ≡ h * row_bytes w →
     ((j : ℕ) → j < n → (k : ℕ) → k < 8 → (bit_at (get_or sup j 0) k && bit_at (get_or part j 0) k) ≡ false) → FirstOf 0 (h * w) (overlap_here (packed w part) (packed w sup)) (h * w)
 unfolding overlap_here packed
 apart_none part sup w h n e all =
     least_none 0 (h * w) _ (omega arith) (λ p a l.
-    rw (row_bit_lem sup (p / w * row_bytes w) (p % w), row_bit_lem part (p / w * row_bytes w) (p % w)) (all (p / w * row_bytes w + p % w / 8) (byte_of w h n p e l) (p % w % 8) (omega arith)))
+    rw (row_bit_lem sup (p / w * row_bytes w) (p % w), row_bit_lem part (p / w * row_bytes w) (p % w)) (all (p / w * row_bytes w + p % w / 8) (byte_of_lem w h n p e l) (p % w % 8) (omega arith)))
 
 -- Row by row and plane by plane -------------------------------------------------------------------------------------------
 

@@ -66,7 +66,7 @@ disc_rows q y c reach j H e =
       | no p ↦ absurd (omega (arith, H.outside (apart (j / 320) (y + 33)) (omega arith)))
     ]
 
--- the half_width_lem of a row of the disc that is no further away than the disc reaches
+-- the half-width of a row of the disc that is no further away than the disc reaches
 pub half_at : (q d : ℕ) (half : List ℕ) → q ≤ most_bound → Halves q half → d ≤ get_or half 0 0 → HalfWidth q d (get_or half d 0) × (get_or half d 0 ≤ 32) × (d < 33)
 half_at q d half lq H l =
     let s : 0 * 0 + d * d ≤ q = (H.half 0 (omega arith)).inside d l in

@@ -8,7 +8,7 @@ use Rattle.laws.specs.Tests.{clash}
 use Rattle.image.specs.Packed.{row_bit_lem}
 use Rattle.image.specs.Rows.{packed}
 use Rattle.places.specs.Search.{unheld_here}
-use Rattle.places.specs.Rows.{byte_of}
+use Rattle.places.specs.Rows.{byte_of_lem}
 use Rattle.quick.specs.Sureness.{NoShadow, NoneHangs}
 
 and_none : (a b : Bool) → (a && false && b) ≡ false
@@ -37,11 +37,11 @@ module _ (w h n : ℕ) (e : n ≡ h * row_bytes w) where
 
   pub no_shadow : (low up : List ℕ) → ((j : ℕ) → j < n → NoShadow low up j) → (p : ℕ) → p < h * w → shadow (packed w low) (packed w up) p ≡ false
   unfolding shadow
-  no_shadow low up none p l = rw (at_byte low p, at_byte up p) (none (p / w * row_bytes w + p % w / 8) (byte_of w h n p e l) (p % w % 8) (omega arith))
+  no_shadow low up none p l = rw (at_byte low p, at_byte up p) (none (p / w * row_bytes w + p % w / 8) (byte_of_lem w h n p e l) (p % w % 8) (omega arith))
 
   none_hung : (low below above : List ℕ) → ((j : ℕ) → j < n → NoneHangs low below above j) → (p : ℕ) → p < h * w → (packed w above p && not (packed w low p || packed w below p)) ≡ false
   none_hung low below above none p l =
-      rw (at_byte low p, at_byte below p, at_byte above p) (none (p / w * row_bytes w + p % w / 8) (byte_of w h n p e l) (p % w % 8) (omega arith))
+      rw (at_byte low p, at_byte below p, at_byte above p) (none (p / w * row_bytes w + p % w / 8) (byte_of_lem w h n p e l) (p % w % 8) (omega arith))
 
   -- nothing is unheld where each shadow pixel without support below has a ring, and no support hangs
   pub all_held : (low up below above : List ℕ) (ring : ℕ → ℕ) → ((j : ℕ) → j < n → NoneHangs low below above j)

@@ -120,7 +120,7 @@ module _ (w h rb r : ℕ) (er : rb ≡ row_bytes w) where
         where
           is_free : Good w h (fr c) (fi c) rings r c → 0 < get_or rings (r * w + c) 0 → fr c ≡ true
           is_free g l = split (eqb (get_or rings (r * w + c) 0) 1)
-              (λ t. (Fi c (g.first_in_lem (eqb-true (get_or rings (r * w + c) 0) 1 t))).0) (λ t. g.free_inside (omega (arith, eqb-false (get_or rings (r * w + c) 0) 1 t)))
+              (λ t. (Fi c (g.first_inside (eqb-true (get_or rings (r * w + c) 0) 1 t))).0) (λ t. g.free_inside (omega (arith, eqb-false (get_or rings (r * w + c) 0) 1 t)))
 
           same_ring : (p o : ℕ) → 1 < get_or rings p 0 → get_or rings o 0 ≡ get_or rings p 0 - 1 → p ≡ o → ⊥
           same_ring p o l e q = omega (arith, ap (λ (x : ℕ). get_or rings x 0) q)
@@ -128,7 +128,7 @@ module _ (w h rb r : ℕ) (er : rb ≡ row_bytes w) where
           sound : Good w h (fr c) (fi c) rings r c → SoundRing w h (packed w low) (packed w up) (λ o. get_or rings o 0) (r * w + c)
           sound g = record {
             free = λ l. free_pixel c lc (is_free g l);
-            first = λ e. first_pixel c lc (g.first_in_lem e);
+            first = λ e. first_pixel c lc (g.first_inside e);
             leans = λ l.
                 let s = g.leans l in (
                   s.row * w + s.column,

@@ -27,8 +27,8 @@ row_bytes_lem w h z = (omega (arith, z.w_max), omega arith)
 
 -- row y of a packed plane
 module _ (w h n y : ℕ) (s : List ℕ) (z : Sizes w h) (en : n ≡ row_bytes w) (cl : Clean w h s) (ly : y < h) where
-  pub row_at : (y * n + n ≤ length s) × (n ≤ 32)
-  row_at = (rw en (omega (arith, cl.long, row_fits y h (row_bytes w) ly)), omega (arith, row_bytes_lem w h z))
+  pub row_at_lem : (y * n + n ≤ length s) × (n ≤ 32)
+  row_at_lem = (rw en (omega (arith, cl.long, row_fits y h (row_bytes w) ly)), omega (arith, row_bytes_lem w h z))
 
   -- its first byte has a place within 8,192
   pub row_place : y * n ≤ 8192

@@ -42,7 +42,7 @@ cleaned_bytes w h n q c part =
 
 -- Rule 10.7: Algorithm 3, RegionSubtractionFDM, by its lines, with S(i+1) in `above` and F(i+1) in `cleaned_above`. 1: Ψ ← P(i+1) − P(i); 2: S(i) ← RegionSubtraction;
 -- 3: Δ ← Ψ − S(i); 4: F(i) ← F(i+1) ∪ η(S(i)) − Δ − P(i)
-unfoldable pub region_subtraction_fDM : ℕ → ℕ → ℕ → ℕ → Plane → Plane → Plane → Plane → Plane
-region_subtraction_fDM w h q d low up above cleaned_above p =
+unfoldable pub region_subtraction_fdm : ℕ → ℕ → ℕ → ℕ → Plane → Plane → Plane → Plane → Plane
+region_subtraction_fdm w h q d low up above cleaned_above p =
     let S : Plane = region_subtraction w h q low up above in
     (cleaned_above p || closed w h d S p) && not (shadow low up p && not (S p)) && not (low p)

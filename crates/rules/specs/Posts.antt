@@ -65,8 +65,8 @@ posts_bytes w h n q r part =
 
 -- Rule 11.7: Algorithm 4, RegionSubtractionSLA, by its lines, with A(i+1) in `above`. 1: Ψ ← P(i+1) − P(i); 2: PA ← A(i+1) − P(i); 3: S̃ ← GrowingSwallow(
 -- GrowingSwallow(Ψ, P(i), P(i+1), t), PA, PA, ta); 4: Ã ← AnchorMapGen(S̃, ta), which is the scan; 5: A(i) ← Ã ∪ PA
-unfoldable pub region_subtraction_sLA : ℕ → ℕ → ℕ → ℕ → Plane → Plane → Plane → Plane
-region_subtraction_sLA w h q r low up above p =
+unfoldable pub region_subtraction_sla : ℕ → ℕ → ℕ → ℕ → Plane → Plane → Plane → Plane
+region_subtraction_sla w h q r low up above p =
     let PA : Plane = gone_down low above in
     let inner : List Bool = (growing_swallow (h * w) (touch w) (shadow low up) low up (near w h q low) (h * w)).S̃ in
     let outer : List Bool = (growing_swallow (h * w) (touch w) (plane_of inner) PA PA (near w h r PA) (h * w)).S̃ in

@@ -126,9 +126,9 @@ leading_part s at n x l X =
     at_first k lk = let z : at * 8 + k ≡ at * 8 + (0 + k) = omega arith in rw (lt-ltb (0 + k) (n * 8) (omega arith), z)
 
 -- and back
-pub byte_of : (x at i : ℕ) → i < 8 → Digits 8 (x / 2 ^ (56 - 8 * i) % 256) ((at + i) * 8) (λ j. bit_of_word x (j - at * 8))
+pub byte_of_lem : (x at i : ℕ) → i < 8 → Digits 8 (x / 2 ^ (56 - 8 * i) % 256) ((at + i) * 8) (λ j. bit_of_word x (j - at * 8))
 unfolding bit_of_word
-byte_of x at i l = record {
+byte_of_lem x at i l = record {
   small = mod-lt (x / 2 ^ (56 - 8 * i)) (omega arith);
   bits = λ e k z.
       let q : 63 - ((at + i) * 8 + k - at * 8) ≡ 56 - 8 * i + e = omega arith in
@@ -137,7 +137,7 @@ byte_of x at i l = record {
 
 pub put_more : (x at i v : ℕ) (out was : List ℕ) → i < 8 → at + i < length out → v ≡ x / 2 ^ (56 - 8 * i) % 256
     → Filling 8 at (at + i) (λ j. bit_of_word x (j - at * 8)) out was → Filling 8 at (at + (i + 1)) (λ j. bit_of_word x (j - at * 8)) (set out (at + i) v) was
-put_more x at i v out was l h e F = rw e (filling_next 8 at i (x / 2 ^ (56 - 8 * i) % 256) (λ j. bit_of_word x (j - at * 8)) out was h F (byte_of x at i l))
+put_more x at i v out was l h e F = rw e (filling_next 8 at i (x / 2 ^ (56 - 8 * i) % 256) (λ j. bit_of_word x (j - at * 8)) out was h F (byte_of_lem x at i l))
 
 -- stores of bytes, in the packed form
 pub within_bytes : (a b : ℕ) (g : ℕ → Bool) (was out : List ℕ) → Within a b g (flat 8 was) (flat 8 out) → Within a b g (bit_of was) (bit_of out)

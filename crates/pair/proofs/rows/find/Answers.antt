@@ -5,7 +5,7 @@ use lib.ListN.{length-set}
 use lib.Seq.{get_or-set_same}
 use Rattle.rules.specs.Planning.{seeds, shadow}
 use Rattle.image.specs.Rows.{packed}
-use Rattle.rings.specs.ByteLaws.{row_at}
+use Rattle.rings.specs.ByteLaws.{row_at_lem}
 use Rattle.pair.specs.FoundLaws.{empty_ready, below_start, below_all, ahead_start, ahead_next, ahead_all, found_room, seed_more, left_more}
 use native.Mathlib.Omega.{arith}
 use Rattle.pair.proofs.rows.find.Goals as goal
@@ -34,8 +34,8 @@ loop-y-init c = let args = c.args in let z = c.requires.sizes.0 in
 
 pub find_row-last-requires : goal.find_row-last-requires
 find_row-last-requires c = let ly : c.loop-y.y - 1 < c.args.h = omega (arith, c.loop-y.invariant.0, c.loop-y-test.true) in
-    let a = row_at _ _ _ _ _ c.requires.sizes.0 c.requires.sizes.1 c.requires.sizes.2 ly in
-    (a.0, (row_at _ _ _ _ _ c.requires.sizes.0 c.requires.sizes.1 c.requires.sizes.3 ly).0, a.1, omega (arith, c.requires.sizes.0.h_max), c.loop-y.invariant.1 ∙ c.requires.empty.0.long, c.loop-y.invariant.2 ∙ c.requires.empty.1.long)
+    let a = row_at_lem _ _ _ _ _ c.requires.sizes.0 c.requires.sizes.1 c.requires.sizes.2 ly in
+    (a.0, (row_at_lem _ _ _ _ _ c.requires.sizes.0 c.requires.sizes.1 c.requires.sizes.3 ly).0, a.1, omega (arith, c.requires.sizes.0.h_max), c.loop-y.invariant.1 ∙ c.requires.empty.0.long, c.loop-y.invariant.2 ∙ c.requires.empty.1.long)
 
 pub bounds-ahead-y : goal.bounds-ahead-y
 bounds-ahead-y c = omega (arith, c.loop-y.invariant.3, c.loop-y.invariant.0, c.requires.sizes.0.h_max)

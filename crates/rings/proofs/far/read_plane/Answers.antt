@@ -1,6 +1,6 @@
 use mathlib.Core.Path.{refl, ◌∙◌}
 use Rattle.words.specs.Words.{column}
-use Rattle.rings.specs.ByteLaws.{row_at, row_column, row_place, read_start, read_more, read_all}
+use Rattle.rings.specs.ByteLaws.{row_at_lem, row_column, row_place, read_start, read_more, read_all}
 use native.Mathlib.Omega.{arith}
 use Rattle.rings.proofs.far.read_plane.Goals as goal
 
@@ -14,7 +14,7 @@ pub overflow_mul-y : goal.overflow_mul-y
 overflow_mul-y c = omega (arith, row_place _ _ _ c.loop-y.y _ c.requires.0 c.requires.1 c.requires.2 (omega arith))
 
 pub read-requires : goal.read-requires
-read-requires c = row_at _ _ _ c.loop-y.y _ c.requires.0 c.requires.1 c.requires.2 (omega arith)
+read-requires c = row_at_lem _ _ _ c.loop-y.y _ c.requires.0 c.requires.1 c.requires.2 (omega arith)
 
 pub put-requires : goal.put-requires
 put-requires c = (c.loop-y.invariant.1 ∙ c.requires.3.long, omega (arith, c.requires.0.h_max))
