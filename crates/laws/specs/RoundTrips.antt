@@ -27,19 +27,19 @@ use Rattle.laws.specs.JobFiles.{stored_most, ring_count_most, length_file}
 
 -- The bytes of a job, section by section, each with all that follows -------------------------------------------------------
 
-abbrev from_rings_lem : Job → List ℕ
-from_rings_lem j = put32 (length j.rings) ++ (put16s j.rings ++ [])
+abbrev from_rings : Job → List ℕ
+from_rings j = put32 (length j.rings) ++ (put16s j.rings ++ [])
 
 abbrev from_support : Job → List ℕ
-from_support j = put32 (rows_stored j) ++ (j.support ++ from_rings_lem j)
+from_support j = put32 (rows_stored j) ++ (j.support ++ from_rings j)
 
-abbrev from_part_lem : Job → List ℕ
-from_part_lem j = put32 (rows_of j.settings) ++ (j.part ++ from_support j)
+abbrev from_part : Job → List ℕ
+from_part j = put32 (rows_of j.settings) ++ (j.part ++ from_support j)
 
 abbrev from_start : Job → List ℕ
 from_start j =
     let s = j.settings in
-    put32 5 ++ (put16 s.w ++ (put16 s.h ++ (put16 s.n ++ (put16 s.pitch.0 ++ (put16 s.overhang.0 ++ from_part_lem j)))))
+    put32 5 ++ (put16 s.w ++ (put16 s.h ++ (put16 s.n ++ (put16 s.pitch.0 ++ (put16 s.overhang.0 ++ from_part j)))))
 
 by_section : (j : Job) → file_of j ≡ from_start j
 unfolding file_of
@@ -98,7 +98,7 @@ module _ (f : List ℕ) (good : GoodFile f) where
   same_length = rw (← support_rows f a) (sym a.ends)
 
   module _ (b : Bytes f) where
-    rings_again : drop (support_end s c) f ≡ from_rings_lem (job_in f)
+    rings_again : drop (support_end s c) f ≡ from_rings (job_in f)
     unfolding rings_stored
     rings_again =
         let r = rooms f a in
@@ -116,7 +116,7 @@ module _ (f : List ℕ) (good : GoodFile f) where
         ∙ ap₂ (λ (k : ℕ) (l : List ℕ). put32 k ++ l) (support_rows f a)
         (grow f (part_end s + 4) (c * row_bytes s.w) ∙ ap (λ (l : List ℕ). support_in f ++ l) rings_again)
 
-    part_again : drop head_end f ≡ from_part_lem (job_in f)
+    part_again : drop head_end f ≡ from_part (job_in f)
     unfolding part_in part_end
     part_again =
         let r = rooms f a in
@@ -157,7 +157,7 @@ module _ (j : Job) (w : Words j.rings) (v : Writable j) where
   record Head : Type 0 where
     first : be32 f 0 ≡ 5
     settings : settings_in f ≡ t
-    rest : drop head_end f ≡ from_part_lem j
+    rest : drop head_end f ≡ from_part j
 
   head : Head
   unfolding settings_in head_end
@@ -187,7 +187,7 @@ module _ (j : Job) (w : Words j.rings) (v : Writable j) where
   record Support : Type 0 where
     count : be32 f (part_end t) ≡ rows_stored j
     rows : take (rows_stored j * row_bytes t.w) (drop (part_end t + 4) f) ≡ j.support
-    rest : drop (support_end t (rows_stored j)) f ≡ from_rings_lem j
+    rest : drop (support_end t (rows_stored j)) f ≡ from_rings j
 
   support : Support
   unfolding support_end
