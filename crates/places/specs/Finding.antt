@@ -1,5 +1,5 @@
 -- Laws of a search that goes by stretches.
-use Rattle.std.specs.Prelude.{◌≡◌, Bool, true, false, ℕ, ◌+◌, ◌-◌, ◌<◌, ◌≤◌, ltb}
+use Rattle.std.specs.Prelude.{◌≡◌, Bool, true, false, ℕ, ◌+◌, ◌-◌, ◌<◌, ◌≤◌, ltb, Option, Some, None, MatchOption, unwrap_or}
 use Rattle.std.proofs.Common.{◌∙◌, arith, ltb-true, ltb-false}
 use Rattle.rules.specs.Tools.{nothing, found, first}
 use Rattle.laws.specs.Tests.{split}
@@ -11,6 +11,12 @@ least_none a n f l all = record { low = l; bound = omega arith; before = all; at
 
 pub least_one : (a n : ℕ) (f : ℕ → Bool) (k : ℕ) → a ≤ k → k < n → ((y : ℕ) → a ≤ y → y < k → f y ≡ false) → f k ≡ true → FirstOf a n f k
 least_one a n f k l h all t = record { low = l; bound = omega arith; before = all; at = λ _. t }
+
+-- the same of what `find` tells of a range
+pub found_first : (a n : ℕ) (f : ℕ → Bool) (o : Option ℕ) → a ≤ n →
+    MatchOption o ((k : ℕ) → a ≤ k → k < n → f k ≡ false) (λ i. (a ≤ i) × (i < n) × (f i ≡ true) × ((k : ℕ) → a ≤ k → k < i → f k ≡ false)) → FirstOf a n f (unwrap_or o n)
+found_first a n f None l all = least_none a n f l all
+found_first a n f (Some i) l h = least_one a n f i h.0 h.1 h.3 h.2
 
 -- one more that fails
 pub fails_more : (a : ℕ) (f : ℕ → Bool) (k : ℕ) → ((y : ℕ) → a ≤ y → y < k → f y ≡ false) → f k ≡ false → (y : ℕ) → a ≤ y → y < k + 1 → f y ≡ false

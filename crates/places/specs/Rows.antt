@@ -8,7 +8,7 @@ use Rattle.rules.specs.Images.{row_bytes, bit_at}
 use Rattle.laws.specs.Places.{digits_in}
 use Rattle.places.specs.Search.{FirstOf, overlap_here, overlap_in, Sized}
 use Rattle.places.specs.BitLaws.{byte_in, no_bit}
-use Rattle.places.specs.Finding.{least_none}
+use Rattle.places.specs.Finding.{least_none, stretch_hit, stretch_more}
 use Rattle.image.specs.Bits.{bit_and_lem}
 use Rattle.image.specs.Rows.{packed}
 use Rattle.image.specs.Packed.{row_bit_lem}
@@ -57,6 +57,14 @@ stretch_end i k u x e a b = let z : i ≡ k = omega arith in e ∙ rw z
 
 pub stretch_next : (i u x : ℕ) → x ≡ i * u → x + u ≡ (i + 1) * u
 stretch_next i u x e = omega arith
+
+-- row (or plane) i of n, each of u, is looked at as g, and all before it fail: it has the first that passes, or all up to the next fail
+module _ (n u i : ℕ) (f g : ℕ → Bool) (l : i < n) (before : (y : ℕ) → y < i * u → y < n * u → f y ≡ false) (same : (j : ℕ) → j < u → f (i * u + j) ≡ g j) where
+  pub found_in : (j : ℕ) → FirstOf 0 u g j → j < u → FirstOf 0 (n * u) f (i * u + j)
+  found_in j r h = stretch_hit (n * u) f g (i * u) u j before same r (stretch_in i n u (i * u) refl l) h
+
+  pub none_in : FirstOf 0 u g u → (y : ℕ) → y < (i + 1) * u → y < n * u → f y ≡ false
+  none_in r = stretch_more (n * u) f g (i * u) u u before same r ((i + 1) * u) (omega arith) (λ y a b. omega arith)
 
 -- the bytes of a row lie in its plane
 pub bytes_in : (w h row at rb len : ℕ) → at ≡ row * rb → rb ≡ row_bytes w → row < h → len ≡ h * row_bytes w → at + row_bytes w ≤ len

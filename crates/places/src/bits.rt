@@ -1,5 +1,5 @@
 // Bits of bytes and pixels of rows, and the first of them that passes.
-ghost use Rattle.std.specs.Prelude.{◌≡◌, ◌+◌, ◌-◌, ◌/◌, ◌<◌, ◌≤◌, min, length};
+ghost use Rattle.std.specs.Prelude.{◌≡◌, ◌+◌, ◌-◌, ◌/◌, ◌<◌, ◌≤◌, length, unwrap_or, IfSome};
 ghost use Rattle.rules.specs.Images.{bit_at};
 ghost use Rattle.places.specs.Search.{FirstOf, bit_in};
 
@@ -10,22 +10,13 @@ pub fn bit(m: u8, k: usize) -> bool
     (m >> (7 - k)) & 1 == 1
 }
 
-// The first bit that is set, from column `from` on and before `to`; or `to`.
-pub fn bit_from(m: u8, from: usize, to: usize) -> usize
+// The first bit that is set, from column `from` on and before `to`.
+pub fn bit_from(m: u8, from: usize, to: usize) -> Option<usize>
     requires { (from ≤ to) × (to ≤ 8) }
-    ensures { FirstOf from to (λ k. bit_at m k) result }
+    ensures first { FirstOf from to (λ k. bit_at m k) (unwrap_or result to) }
+    ensures inside { IfSome result (λ k. k < to) }
 {
-    if m == 0 {
-        return to;
-    }
-    let mut k = from;
-    while k < to {
-        if bit(m, k) {
-            return k;
-        }
-        k += 1;
-    }
-    to
+    (from..to).find(|k| bit(m, *k))
 }
 
 // The pixel at column c of a row.

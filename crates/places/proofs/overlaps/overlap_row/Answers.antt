@@ -1,41 +1,26 @@
-use native.Mathlib.Omega.{arith}
-use borrow.Author.Rules.{rules}
-use Prim.Native.Nat.{◌+◌}
-use Rattle.places.specs.Finding.{least_none, stretch_hit, stretch_more}
-use Rattle.places.specs.Rows.{overlap_byte}
-use Rattle.places.specs.Search.{overlap_in}
+use Rattle.std.proofs.Common.{arith, ◌*◌, ◌+◌}
 use Rattle.rules.specs.Images.{row_bytes}
+use Rattle.places.specs.Search.{overlap_in}
+use Rattle.places.specs.Finding.{stretch_hit, stretch_more, least_none}
+use Rattle.places.specs.Rows.{overlap_byte}
 use Rattle.places.proofs.overlaps.overlap_row.Goals as goal
 
-pub loop-c-init : goal.loop-c-init
-loop-c-init c = (search rules, search rules, λ y l a. absurd (omega arith))
-
-pub bounds-sup-b : goal.bounds-sup-b
+pub overflow_sub-w : goal.overflow_sub-w
 unfolding row_bytes
-bounds-sup-b c = omega arith
+overflow_sub-w c = omega arith
 
-pub bounds-part-b : goal.bounds-part-b
+pub returns-in-Some-clause-first : goal.returns-in-Some-clause-first
 unfolding row_bytes
-bounds-part-b c = omega arith
+returns-in-Some-clause-first c = let a = c.args in let b = c.loop-b.b in
+    stretch_hit a.w (overlap_in a.part.now a.sup.now a.at) _ (8 * b) c.min-end.result c.in-Some.k c.loop-b.invariant
+    (λ j l. overlap_byte a.part.now a.sup.now a.at (8 * b) (a.at + b) j (omega arith) (omega arith) (omega arith)) c.in-Some.ensures.first (omega arith) c.in-Some.ensures.inside
 
-pub returns-then-k-end : goal.returns-then-k-end
-returns-then-k-end c = let args = c.args in
-    stretch_hit args.w (overlap_in args.part.now args.sup.now args.at) _ c.loop-c.c c.lesser-end.result c.bit_from-k.result c.loop-c.invariant.2
-    (λ j l. overlap_byte args.part.now args.sup.now args.at c.loop-c.c c.loop-c.b j c.loop-c.invariant.0 c.loop-c.invariant.1 (omega arith)) c.bit_from-k.ensures
-    (omega arith) c.if-k-end.true
+pub loop-b-preserved : goal.loop-b-preserved
+loop-b-preserved c = let a = c.args in let b = c.loop-b.b in
+    stretch_more a.w (overlap_in a.part.now a.sup.now a.at) _ (8 * b) c.min-end.result c.min-end.result c.loop-b.invariant
+    (λ j l. overlap_byte a.part.now a.sup.now a.at (8 * b) (a.at + b) j (omega arith) (omega arith) (omega arith)) c.in_default.ensures.first
+    (8 * (b + 1)) (omega arith) (λ y l k. omega arith)
 
-pub overflow_add-b : goal.overflow_add-b
+pub returns-clause-first : goal.returns-clause-first
 unfolding row_bytes
-overflow_add-b c = omega arith
-
-pub loop-c-preserved : goal.loop-c-preserved
-loop-c-preserved c = let args = c.args in (
-  omega arith,
-  omega arith,
-  stretch_more args.w (overlap_in args.part.now args.sup.now args.at) _ c.loop-c.c c.lesser-end.result c.bit_from-k.result
-      c.loop-c.invariant.2 (λ j l. overlap_byte args.part.now args.sup.now args.at c.loop-c.c c.loop-c.b j c.loop-c.invariant.0 c.loop-c.invariant.1 (omega arith))
-      c.bit_from-k.ensures (c.loop-c.c + 8) c.if-k-end.false (λ y a b. omega arith),
-)
-
-pub returns : goal.returns
-returns c = least_none 0 c.args.w _ (omega arith) (λ y l b. c.loop-c.invariant.2 y (omega arith) b)
+returns-clause-first c = least_none 0 c.args.w _ (omega arith) (λ y l b. c.loop-b.invariant y (omega arith) b)
