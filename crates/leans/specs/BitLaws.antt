@@ -1,8 +1,9 @@
 -- Laws of the bits of a word.
-use Rattle.std.specs.Prelude.{◌≡◌, refl, Bool, true, false, not, ◌&&◌, ◌||◌, List, ℕ, ◌+◌, ◌-◌, ◌*◌, ◌/◌, ◌%◌, ◌^◌, ◌<◌, ◌≤◌, eqb, get_or}
+use Rattle.std.specs.Prelude.{◌≡◌, refl, Bool, true, false, not, ◌&&◌, ◌||◌, List, ℕ, zero, suc, ◌+◌, ◌-◌, ◌*◌, ◌/◌, ◌%◌, ◌^◌, ◌<◌, ◌≤◌, eqb, get_or}
 use Rattle.std.proofs.Common.{sym, ap, ◌∙◌, mod-lt, arith, lt-ltb, eqb-true, shl_exact, pow_pos}
 use Rattle.std.proofs.Math.Decide.{dec_lt, ℕ_discrete}
 use Rattle.std.proofs.lemmas.Bool.{eqb-false}
+use Rattle.std.specs.Int.{w64, to_be_bytes}
 use Rattle.std.specs.Int.Bits.{bit_and, bit_or}
 use Rattle.std.proofs.lemmas.Nat.{shl-shr}
 use Rattle.std.proofs.Math.Pow.{pow-lt, low}
@@ -18,6 +19,18 @@ word_bit_lem l i k h = let a : (i * 64 + k) / 64 ≡ i = omega arith in let b : 
 pub bit_at_lem : (l : List ℕ) (c : ℕ) → word_bit l c ≡ bit_of_word (get_or l (c / 64) 0) (c % 64)
 unfolding flat bit_of_word
 bit_at_lem l c = refl
+
+-- the bytes of a word, the highest first
+pub byte_at_lem : (x b : ℕ) → b < 8 → get_or (to_be_bytes w64 x) b 0 ≡ x / 2 ^ (56 - 8 * b) % 2 ^ 8
+byte_at_lem x zero l = refl
+byte_at_lem x (suc zero) l = refl
+byte_at_lem x (suc (suc zero)) l = refl
+byte_at_lem x (suc (suc (suc zero))) l = refl
+byte_at_lem x (suc (suc (suc (suc zero)))) l = refl
+byte_at_lem x (suc (suc (suc (suc (suc zero))))) l = refl
+byte_at_lem x (suc (suc (suc (suc (suc (suc zero)))))) l = refl
+byte_at_lem x (suc (suc (suc (suc (suc (suc (suc zero))))))) l = omega arith
+byte_at_lem x (suc (suc (suc (suc (suc (suc (suc (suc b)))))))) l = absurd (omega arith)
 
 -- the row at the start of a list
 pub row_start : (l : List ℕ) (c : ℕ) → c < 256 → row_at l 0 c ≡ word_bit l c

@@ -1,7 +1,8 @@
 -- Laws of rings joined, of eight rings at once, of the neighbours and of a good ring.
-use Rattle.std.specs.Prelude.{◌≡◌, refl, Bool, true, false, not, ◌&&◌, ◌||◌, cond, List, ℕ, zero, suc, ◌+◌, ◌-◌, ◌*◌, ◌/◌, ◌^◌, ◌<◌, ◌≤◌, ltb, eqb, length, get_or, set}
-use Rattle.std.proofs.Common.{sym, ap, subst, ◌∙◌, add-mul, arith, below_more, ltb-true, ltb-false, lt-ltb, le-ltb, eq-eqb, ne_eqb, get_or-set_same, get_or-set_other}
+use Rattle.std.specs.Prelude.{◌≡◌, refl, Bool, true, false, not, ◌&&◌, ◌||◌, cond, List, ℕ, zero, suc, ◌+◌, ◌-◌, ◌*◌, ◌/◌, ◌^◌, ◌<◌, ◌≤◌, ltb, eqb, length, get_or, set, Option, IfSome}
+use Rattle.std.proofs.Common.{sym, ap, subst, ◌∙◌, arith, below_more, ltb-true, ltb-false, lt-ltb, le-ltb, eq-eqb, ne_eqb, get_or-set_same, get_or-set_other}
 use Rattle.std.proofs.Math.Decide.{dec_lt}
+use Rattle.std.specs.Bool.{then_some}
 use Rattle.std.specs.Int.Bits.{bit_and, bit_or, bit_xor, or_add_and, xor_add_and}
 use Rattle.std.proofs.lemmas.Nat.{and_le_l, and_le_r}
 use Rattle.rules.specs.Tools.{bit}
@@ -66,13 +67,6 @@ alike_byte rings x m b v byte like k l = like k l ∙ ap bit (byte k l)
 pub step_fits : (w h y c : ℕ) → Sized w h → y < h → c < w → (y * w ≤ 65536) × (y * w + c ≤ 65536)
 step_fits w h y c s ly lc = (omega (arith, in_plane w h y c ly lc, area_fit w h s), omega (arith, in_plane w h y c ly lc, area_fit w h s))
 
--- place j of row i of the nine about a pixel
-pub nine_at : (w r c i j : ℕ) → (r - 1) * w + (c - 1) + i * w + j ≡ (r - 1 + i) * w + (c - 1 + j)
-nine_at w r c i j = let e : (r - 1 + i) * w ≡ (r - 1) * w + i * w = add-mul (r - 1) i w in omega arith
-
-pub nine_in : (w h r c i j : ℕ) → ((0 < r) × (r + 1 < h)) × ((0 < c) × (c + 1 < w)) → i < 3 → j < 3 → (r - 1) * w + (c - 1) + i * w + j < h * w
-nine_in w h r c i j ((a, b), (d, e)) li lj = rw (nine_at w r c i j) (in_plane w h (r - 1 + i) (c - 1 + j) (omega arith) (omega arith))
-
 pub step_at : (w h : ℕ) (rings : List ℕ) (r c v y x : ℕ) → (y < h) × ((r ≤ y + 1) × (y ≤ r + 1)) → (x < w) × ((c ≤ x + 1) × (x ≤ c + 1)) →
     get_or rings (y * w + x) 0 ≡ v → Step w h rings r c v
 step_at w h rings r c v y x (ly, (a, b)) (lx, (d, e)) is =
@@ -108,10 +102,6 @@ or_yes : (a : Bool) → (a || true) ≡ true
 or_yes true = refl
 or_yes false = refl
 
-pub least_more : (f : ℕ → ℕ) (a k most : ℕ) → ((j : ℕ) → a ≤ j → j < k → f j ≤ most) → (j : ℕ) → a ≤ j → j < k + 1 → f j ≤ bit_or most (f k)
-least_more f a k most old j lo hi = split (ltb j k) (λ t. omega (arith, old j lo (ltb-true j k t), or_left most (f k))) (λ t.
-    let z : j ≡ k = omega (arith, ltb-false j k t) in rw z (or_right most (f k)))
-
 module _ (w : ℕ) (rings : List ℕ) (at x a k got : ℕ) where
   pub got_none : get_or rings (at + (x + k)) 0 ≡ 0 → k < 64 → Got w rings at x a k got → Got w rings at x a (k + 1) got
   got_none e lk g = record {
@@ -127,6 +117,35 @@ module _ (w : ℕ) (rings : List ℕ) (at x a k got : ℕ) where
         (λ t. let l : j < k = ltb-true j k t in rw (is j (omega arith), ne_eqb j k (λ z. omega arith), or_false (bit_of_word got j)) (g.has j lo l lw))
         (λ t. let z : j ≡ k = omega (arith, ltb-false j k t) in rw (z, is k lk, eq-eqb k k refl, or_yes (bit_of_word got k), lt-ltb 0 (get_or rings (at + (x + k)) 0) pos));
     only = λ j l out. bit_or_lem got b j ∙ rw (is j l, ne_eqb j k (λ z. out (omega arith) (omega arith)), or_false (bit_of_word got j)) (g.only j l (λ u v. out u (omega arith)));
+  }
+
+-- no pixel tells yet, and one more pixel tells
+pub tells_start : (w h : ℕ) (rings : List ℕ) (r x a free first : ℕ) → Tells w h rings r x a a free first (record { got = 0; most = 0 })
+tells_start w h rings r x a free first = record {
+  fine = λ k lo hi lw. absurd (omega arith);
+  gets = record { has = λ k lo hi lw. absurd (omega arith); only = λ k l out. bit_zero k };
+  most = λ k lo hi lw. absurd (omega arith);
+}
+
+module _ (w h : ℕ) (rings : List ℕ) (r x a k free first got most : ℕ) (lk : k < 64) (T : Tells w h rings r x a k free first (record { got = got; most = most })) where
+  -- the pixels up to k may carry their rings
+  fine_more : Good w h (bit_of_word free k) (bit_of_word first k) rings r (x + k) → (j : ℕ) → a ≤ j → j < k + 1 → x + j < w → Good w h (bit_of_word free j) (bit_of_word first j) rings r (x + j)
+  fine_more g = all_more (λ j. x + j < w → Good w h (bit_of_word free j) (bit_of_word first j) rings r (x + j)) a k T.fine (λ _. g)
+
+  pub tells_none : get_or rings (r * w + (x + k)) 0 ≡ 0 → Tells w h rings r x a (k + 1) free first (record { got = got; most = most })
+  tells_none e = record {
+    fine = fine_more (good_none w h (bit_of_word free k) (bit_of_word first k) rings r (x + k) e);
+    gets = got_none w rings (r * w) x a k got e lk T.gets;
+    most = all_more (λ j. x + j < w → get_or rings (r * w + (x + j)) 0 ≤ most) a k T.most (λ _. omega arith);
+  }
+
+  pub tells_some : (b v : ℕ) → ((j : ℕ) → j < 64 → bit_of_word b j ≡ eqb j k) → v ≡ get_or rings (r * w + (x + k)) 0 → 0 < v → a ≤ k → Good w h (bit_of_word free k) (bit_of_word first k) rings r (x + k)
+      → Tells w h rings r x a (k + 1) free first (record { got = bit_or got b; most = bit_or most v })
+  tells_some b v is e pos la g = record {
+    fine = fine_more g;
+    gets = got_some w rings (r * w) x a k got b is (omega arith) la lk T.gets;
+    most = all_more (λ j. x + j < w → get_or rings (r * w + (x + j)) 0 ≤ bit_or most v) a k
+        (λ j lo hi lw. omega (arith, T.most j lo hi lw, or_left most v)) (λ _. omega (arith, or_right most v));
   }
 
 module _ (w h : ℕ) (rings : List ℕ) (r x free first b : ℕ) where
@@ -177,29 +196,39 @@ module _ (w h : ℕ) (rings : List ℕ) (r x free first b : ℕ) where
         old k (omega arith) lw ∙ rw (le-ltb k (8 * b) lo, alike_ring k lo hi) (sym (bit_some (bit_of_word first k))))
 
   -- byte b, of which the image may have some columns, up to column e of the word
-  module _ (e : ℕ) (t : Told) (T : Tells w h rings r x (8 * b) e free first t) (g : t.good ≡ true) (le : e ≤ 8 * b + 8) (ge : (k : ℕ) → k < 8 * b + 8 → x + k < w → k < e) (lb : b < 8) where
-    pub told_before : Before (8 * b) → Before (8 * (b + 1))
-    told_before old = before_next old (λ k lo hi lw. T.fine g k lo (ge k hi lw) lw)
+  module _ (e : ℕ) (t : Told) (T : Tells w h rings r x (8 * b) e free first t) (le : e ≤ 8 * b + 8) (ge : (k : ℕ) → k < 8 * b + 8 → x + k < w → k < e) (lb : b < 8) where
+    told_before : Before (8 * b) → Before (8 * (b + 1))
+    told_before old = before_next old (λ k lo hi lw. T.fine k lo (ge k hi lw) lw)
 
-    pub told_least : (most : ℕ) → AtMost b most → AtMost (b + 1) (bit_or most t.most)
-    told_least most old = least_next most (bit_or most t.most) (or_left most t.most) old (λ k lo hi lw. omega (arith, T.most g k lo (ge k hi lw) lw, or_right most t.most))
+    told_least : (most : ℕ) → AtMost b most → AtMost (b + 1) (bit_or most t.most)
+    told_least most old = least_next most (bit_or most t.most) (or_left most t.most) old (λ k lo hi lw. omega (arith, T.most k lo (ge k hi lw) lw, or_right most t.most))
 
-    pub told_got : (got p : ℕ) → ((k : ℕ) → k < 64 → bit_of_word p k ≡ ((bit_of_word got k && not (eqb (k / 8) b)) || bit_of_word t.got k)) → GotTo b got → GotTo (b + 1) p
+    told_got : (got p : ℕ) → ((k : ℕ) → k < 64 → bit_of_word p k ≡ ((bit_of_word got k && not (eqb (k / 8) b)) || bit_of_word t.got k)) → GotTo b got → GotTo (b + 1) p
     told_got got p patch old = got_next got p old
         (λ k l out. patch k l ∙ rw (
           ne_eqb (k / 8) b (λ z. out (omega arith) (omega arith)),
-          (T.gets g).only k l (λ lo hi. out lo (omega arith)),
+          T.gets.only k l (λ lo hi. out lo (omega arith)),
           and_true (bit_of_word got k),
           or_false
               (bit_of_word got k),
         ))
-        (λ k lo hi lw. patch k (omega arith) ∙ rw (eq-eqb (k / 8) b (omega arith), and_false (bit_of_word got k)) ((T.gets g).has k lo (ge k hi lw) lw))
+        (λ k lo hi lw. patch k (omega arith) ∙ rw (eq-eqb (k / 8) b (omega arith), and_false (bit_of_word got k)) (T.gets.has k lo (ge k hi lw) lw))
 
 -- what the bytes before byte b tell
 pub record Upto (w h : ℕ) (rings : List ℕ) (r x free first b got most : ℕ) : Type 0 where
   pub good : Before w h rings r x free first b (8 * b)
   pub gets : GotTo w h rings r x free first b b got
   pub least : AtMost w h rings r x free first b b most
+
+-- byte b too, by what its pixels tell
+pub upto_told : (w h : ℕ) (rings : List ℕ) (r x free first b e : ℕ) (t : Told) → Tells w h rings r x (8 * b) e free first t → e ≤ 8 * b + 8 → ((k : ℕ) → k < 8 * b + 8 → x + k < w → k < e) →
+    b < 8 → (got most p : ℕ) → ((k : ℕ) → k < 64 → bit_of_word p k ≡ ((bit_of_word got k && not (eqb (k / 8) b)) || bit_of_word t.got k)) →
+    Upto w h rings r x free first b got most → Upto w h rings r x free first (b + 1) p (bit_or most t.most)
+upto_told w h rings r x free first b e t T le ge lb got most p patch u = record {
+  good = told_before w h rings r x free first b e t T le ge lb u.good;
+  gets = told_got w h rings r x free first b e t T le ge lb got p patch u.gets;
+  least = told_least w h rings r x free first b e t T le ge lb most u.least;
+}
 
 -- bytes that are alike are passed over: n of them from byte b on
 pub upto_alike : (w h : ℕ) (rings : List ℕ) (r x free first got most b n : ℕ) → b + n ≤ 8 → ((k : ℕ) → b ≤ k → k < b + n → Alike rings (r * w + x) first k) →
@@ -221,21 +250,26 @@ upto_next w h rings r x free first got most b d lo hi like u =
     rw z at (upto_alike w h rings r x free first got most b (d - b) (omega arith) (λ k a e. like k a (omega arith)) u)
 
 -- a word without rings
-pub quiet_told : (w h : ℕ) (rings : List ℕ) (r x free first : ℕ) (b : Bool) → (b ≡ true → (k : ℕ) → k < 64 → x + k < w → get_or rings (r * w + (x + k)) 0 ≡ 0) →
-    Tells w h rings r x 0 64 free first (record { good = b; got = 0; most = 0 })
-quiet_told w h rings r x free first b none = record {
-  fine = λ e k lo hi lw. good_none w h (bit_of_word free k) (bit_of_word first k) rings r (x + k) (none e k hi lw);
-  gets = λ e. record { has = λ k lo hi lw. bit_zero k ∙ rw (none e k hi lw); only = λ k l out. bit_zero k };
-  most = λ e k lo hi lw. omega (arith, none e k hi lw);
+pub quiet_told : (w h : ℕ) (rings : List ℕ) (r x free first : ℕ) → ((k : ℕ) → k < 64 → x + k < w → get_or rings (r * w + (x + k)) 0 ≡ 0) →
+    Tells w h rings r x 0 64 free first (record { got = 0; most = 0 })
+quiet_told w h rings r x free first none = record {
+  fine = λ k lo hi lw. good_none w h (bit_of_word free k) (bit_of_word first k) rings r (x + k) (none k hi lw);
+  gets = record { has = λ k lo hi lw. bit_zero k ∙ rw (none k hi lw); only = λ k l out. bit_zero k };
+  most = λ k lo hi lw. omega (arith, none k hi lw);
 }
+
+-- what `then_some` gives
+pub if_then_some : {A : Type 0} (b : Bool) (v : A) (o : Option A) (P : A → Type 0) → o ≡ then_some b v → (b ≡ true → P v) → IfSome o P
+if_then_some true v o P e h = rw e (h refl)
+if_then_some false v o P e h = rw e tt
 
 -- a whole word, after the last byte of which the image has columns
 pub word_told : (w h : ℕ) (rings : List ℕ) (r x free first n got most : ℕ) → ((k : ℕ) → k < 64 → x + k < w → k < 8 * n) → Upto w h rings r x free first n got most →
-    Tells w h rings r x 0 64 free first (record { good = true; got = got; most = most })
+    Tells w h rings r x 0 64 free first (record { got = got; most = most })
 word_told w h rings r x free first n got most ln u = record {
-  fine = λ e k lo hi lw. u.good k lo (ln k hi lw) lw;
-  gets = λ e. record { has = λ k lo hi lw. u.gets k hi lw ∙ rw (lt-ltb k (8 * n) (ln k hi lw)); only = λ k l out. absurd (out (omega arith) l) };
-  most = λ e k lo hi lw. u.least.1 k (ln k hi lw) lw;
+  fine = λ k lo hi lw. u.good k lo (ln k hi lw) lw;
+  gets = record { has = λ k lo hi lw. u.gets k hi lw ∙ rw (lt-ltb k (8 * n) (ln k hi lw)); only = λ k l out. absurd (out (omega arith) l) };
+  most = λ k lo hi lw. u.least.1 k (ln k hi lw) lw;
 }
 
 -- The words of a row ----------------------------------------------------------------------------------------------------------
@@ -253,22 +287,22 @@ module _ (w h : ℕ) (rings : List ℕ) (r i : ℕ) where
       let z : i * 64 + (c - i * 64) ≡ c = omega (arith, ltb-false c (i * 64) b) in
       subst P z (new (c - i * 64) (omega (arith, ltb-false c (i * 64) b)) (omega arith)))
 
-  pub lined_more : (free first got : List ℕ) (most : ℕ) (t : Told) → Tells w h rings r (i * 64) 0 64 (get_or free i 0) (get_or first i 0) t → t.good ≡ true → i < length got →
+  pub lined_more : (free first got : List ℕ) (most : ℕ) (t : Told) → Tells w h rings r (i * 64) 0 64 (get_or free i 0) (get_or first i 0) t → i < length got →
       Lined w h rings r i free first got most → Lined w h rings r (i + 1) free first (set got i t.got) (bit_or most t.most)
-  lined_more free first got most t T g lg L = record {
-    fine = in_word (λ c. Good w h (word_bit free c) (word_bit first c) rings r c) L.fine (λ k lk lw. rw (word_bit_lem free i k lk, word_bit_lem first i k lk) (T.fine g k (omega arith) lk lw));
+  lined_more free first got most t T lg L = record {
+    fine = in_word (λ c. Good w h (word_bit free c) (word_bit first c) rings r c) L.fine (λ k lk lw. rw (word_bit_lem free i k lk, word_bit_lem first i k lk) (T.fine k (omega arith) lk lw));
     gets = in_word (λ c. 0 < get_or rings (r * w + c) 0 → word_bit (set got i t.got) c ≡ true)
         (λ c l lc pos. bit_at_lem (set got i t.got) c ∙ rw (get_or-set_other got i (c / 64) t.got 0 (λ z. omega arith)) (sym (bit_at_lem got c)) ∙ L.gets c l lc pos)
-        (λ k lk lw pos. word_bit_lem (set got i t.got) i k lk ∙ rw (get_or-set_same got i t.got 0 lg) ((T.gets g).has k (omega arith) lk lw) ∙ lt-ltb 0 _ pos);
+        (λ k lk lw pos. word_bit_lem (set got i t.got) i k lk ∙ rw (get_or-set_same got i t.got 0 lg) (T.gets.has k (omega arith) lk lw) ∙ lt-ltb 0 _ pos);
     least = in_word (λ c. get_or rings (r * w + c) 0 ≤ bit_or most t.most)
-        (λ c l lc. omega (arith, L.least c l lc, or_left most t.most)) (λ k lk lw. omega (arith, T.most g k (omega arith) lk lw, or_right most t.most));
+        (λ c l lc. omega (arith, L.least c l lc, or_left most t.most)) (λ k lk lw. omega (arith, T.most k (omega arith) lk lw, or_right most t.most));
   }
 
-  pub row_held : (hang : List ℕ) (free first bare : ℕ) (t : Told) → Tells w h rings r (i * 64) 0 64 free first t → t.good ≡ true → t.got < 2 ^ 64 →
+  pub row_held : (hang : List ℕ) (free first bare : ℕ) (t : Told) → Tells w h rings r (i * 64) 0 64 free first t → t.got < 2 ^ 64 →
       (bare ≡ 0 → (c : ℕ) → c < i * 64 → c < w → word_bit hang c ≡ true → 0 < get_or rings (r * w + c) 0) →
       bit_or bare (bit_and (get_or hang i 0) (2 ^ 64 - 1 - t.got)) ≡ 0 → (c : ℕ) → c < (i + 1) * 64 → c < w → word_bit hang c ≡ true → 0 < get_or rings (r * w + c) 0
-  row_held hang free first bare t T g lg old e =
+  row_held hang free first bare t T lg old e =
       let (x, y) = or_none bare (bit_and (get_or hang i 0) (2 ^ 64 - 1 - t.got)) e in
       in_word (λ c. word_bit hang c ≡ true → 0 < get_or rings (r * w + c) 0) (old x) (λ k lk lw u.
       let m : bit_of_word (get_or hang i 0) k ≡ true = sym (word_bit_lem hang i k lk) ∙ u in
-      ltb-true 0 _ (sym ((T.gets g).has k (omega arith) lk lw) ∙ covered_bit (get_or hang i 0) t.got k lg lk y m))
+      ltb-true 0 _ (sym (T.gets.has k (omega arith) lk lw) ∙ covered_bit (get_or hang i 0) t.got k lg lk y m))

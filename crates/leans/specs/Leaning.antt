@@ -31,12 +31,12 @@ pub record Got (w : ℕ) (rings : List ℕ) (at x a b got : ℕ) : Type 0 where
   pub has : (k : ℕ) → a ≤ k → k < b → x + k < w → bit_of_word got k ≡ ltb 0 (get_or rings (at + (x + k)) 0)
   pub only : (k : ℕ) → k < 64 → (a ≤ k → k < b → ⊥) → bit_of_word got k ≡ false
 
--- what the word at column x of row r tells of its bits from a up to b, where it says yes: their rings are good and at most `most`, and
--- `got` has those that have one
+-- what the word at column x of row r tells of its bits from a up to b: their rings are good and at most `most`, and `got` has those that
+-- have one
 pub record Tells (w h : ℕ) (rings : List ℕ) (r x a b free first : ℕ) (t : Told) : Type 0 where
-  pub fine : t.good ≡ true → (k : ℕ) → a ≤ k → k < b → x + k < w → Good w h (bit_of_word free k) (bit_of_word first k) rings r (x + k)
-  pub gets : t.good ≡ true → Got w rings (r * w) x a b t.got
-  pub most : t.good ≡ true → (k : ℕ) → a ≤ k → k < b → x + k < w → get_or rings (r * w + (x + k)) 0 ≤ t.most
+  pub fine : (k : ℕ) → a ≤ k → k < b → x + k < w → Good w h (bit_of_word free k) (bit_of_word first k) rings r (x + k)
+  pub gets : Got w rings (r * w) x a b t.got
+  pub most : (k : ℕ) → a ≤ k → k < b → x + k < w → get_or rings (r * w + (x + k)) 0 ≤ t.most
 
 -- no pixel of row r has a ring
 abbrev pub Bare : ℕ → List ℕ → ℕ → Type 0

@@ -7,7 +7,7 @@ pub fn bit(x: u64, k: usize) -> bool
     requires { k < 64 }
     ensures { result ≡ bit_of_word x k }
 {
-    (x >> (63 - k)) & 1 == 1
+    places::bits::digit(x, 63 - k)
 }
 
 // Bit c of a row of four words.
@@ -23,7 +23,7 @@ pub fn byte(x: u64, b: usize) -> u8
     requires { b < 8 }
     ensures { (j : ℕ) → j < 8 → bit_at result j ≡ bit_of_word x (8 * b + j) }
 {
-    ((x >> (56 - 8 * b)) & 255) as u8
+    x.to_be_bytes()[b]
 }
 
 // The bits of x outside byte b, and those of y.

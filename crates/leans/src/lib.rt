@@ -7,18 +7,16 @@ pub mod marks;
 pub mod steps;
 pub mod words64;
 
-// What 64 pixels tell: whether their rings are good, which of them have one, and a number that none of them exceeds.
+// What 64 pixels whose rings are good tell: which of them have one, and a number that none of them exceeds.
 #[derive(Clone, Copy)]
 pub struct Told {
-    pub good: bool,
     pub got: u64,
     pub most: u16,
 }
 
-// What a row tells: whether its rings are good but for nearness, whether each pixel that hangs has one, and a number that none exceeds.
+// What a row tells whose rings are good but for nearness: whether each pixel that hangs has one, and a number that none exceeds.
 #[derive(Clone, Copy)]
 pub struct Line {
-    pub rings: bool,
     pub held: bool,
     pub most: u16,
 }

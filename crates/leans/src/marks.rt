@@ -8,10 +8,8 @@ pub fn gather(rings: &[u16], x: usize, n: usize) -> u16
     ensures { (j : ℕ) → j < n → get_or rings.now (x + j) 0 ≤ result }
 {
     let mut all: u16 = 0;
-    let mut j = 0;
-    while j < n {
-        all = all | rings[x + j];
-        j += 1;
+    for j in 0..n {
+        all |= rings[x + j];
     }
     all
 }
@@ -33,12 +31,10 @@ pub fn quiet(rings: &[u16], x: usize, n: usize) -> bool
     ensures { result ≡ true → (j : ℕ) → j < n → get_or rings.now (x + j) 0 ≡ 0 }
 {
     let mut all: u16 = 0;
-    let mut j = 0;
-    while j + 256 <= n {
-        all = all | gather(rings, x + j, 256);
-        j += 256;
+    for k in 0..n / 256 {
+        all |= gather(rings, x + k * 256, 256);
     }
-    all | gather(rings, x + j, n - j) == 0
+    all | gather(rings, x + n / 256 * 256, n % 256) == 0
 }
 
 // Whether no pixel of the rows from a up to b has a ring.

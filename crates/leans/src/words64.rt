@@ -1,6 +1,6 @@
 // Rings that are good, by words: 64 columns without a free pixel are passed over at once, and so are eight whose rings are 1 at the first
 // pixels and else 0.
-ghost use Rattle.std.specs.Prelude.{◌≡◌, true, ℕ, min, ◌+◌, ◌-◌, ◌*◌, ◌<◌, ◌≤◌, length, get_or};
+ghost use Rattle.std.specs.Prelude.{◌≡◌, true, ℕ, min, ◌+◌, ◌-◌, ◌*◌, ◌<◌, ◌≤◌, length, get_or, IfSome, MatchOption};
 ghost use Rattle.words.specs.Words.{word_bit, Ones};
 ghost use Rattle.places.specs.Search.{Sized};
 ghost use Rattle.leans.specs.Leaning.{Alike, Good, Tells};
@@ -8,12 +8,13 @@ ghost use Rattle.leans.specs.Leaning.{Alike, Good, Tells};
 use crate::{Line, Told};
 
 // The first byte of a word of n columns, from byte b on, that is to be looked at pixel by pixel. Place `at` is the word's first.
-fn next(rings: &[u16], ones: &[u16], at: usize, first: u64, b: usize, n: usize) -> usize
-    requires { (64 ≤ n → at + 64 ≤ length rings.now) × (at < 65536) × Ones ones.now × (b ≤ 8) }
-    ensures { (b ≤ result) × (result ≤ 8) × ((k : ℕ) → b ≤ k → k < result → Alike rings.now at first k) }
+fn next(rings: &[u16], ones: &[u16], at: usize, first: u64, b: usize, n: usize) -> Option<usize>
+    requires { (n ≤ 64) × (64 ≤ n → at + 64 ≤ length rings.now) × (at < 65536) × Ones ones.now × (b ≤ 8) }
+    ensures { MatchOption result ((d : ℕ) × (b ≤ d) × (d ≤ 8) × (n ≤ 8 * d) × ((k : ℕ) → b ≤ k → k < d → Alike rings.now at first k))
+        (λ d. (b ≤ d) × (8 * d < n) × ((k : ℕ) → b ≤ k → k < d → Alike rings.now at first k)) }
 {
     if n < 64 {
-        return b;
+        return (8 * b < n).then_some(b);
     }
     crate::eights::unlike(rings, ones, at, first, b)
 }
@@ -29,29 +30,22 @@ fn eights(
     n: usize,
     free: u64,
     first: u64,
-) -> Told
+) -> Option<Told>
     requires { (Sized w h × (length rings.now ≡ h * w)) × ((r < h) × ((x < w) × ((n ≡ min (w - x) 64) × Ones ones.now))) }
-    ensures { Tells w h rings.now r x 0 64 free first result }
+    ensures { IfSome result (Tells w h rings.now r x 0 64 free first) }
 {
     let at = r * w + x;
     let mut got = first;
     let mut most: u16 = 1;
-    let mut b = next(rings, ones, at, first, 0, n);
-    while 8 * b < n {
-        let end = numbers::lesser(8 * b + 8, n);
-        let t = crate::steps::pixels(rings, w, h, r, x, 8 * b, end, free, first);
-        if !t.good {
-            return t;
-        }
+    let mut from = 0;
+    while let Some(b) = next(rings, ones, at, first, from, n) {
+        let end = (8 * b + 8).min(n);
+        let t = crate::steps::pixels(rings, w, h, r, x, 8 * b, end, free, first)?;
         got = crate::bits::patched(got, t.got, b);
-        most = most | t.most;
-        b = next(rings, ones, at, first, b + 1, n);
+        most |= t.most;
+        from = b + 1;
     }
-    Told {
-        good: true,
-        got,
-        most,
-    }
+    Some(Told { got, most })
 }
 
 // The word at column x, of which the image may have all columns, some or none.
@@ -64,29 +58,22 @@ fn word(
     x: usize,
     free: u64,
     first: u64,
-) -> Told
+) -> Option<Told>
     requires { (Sized w h × (length rings.now ≡ h * w)) × ((r < h) × ((x < 256) × Ones ones.now)) }
-    ensures { Tells w h rings.now r x 0 64 free first result }
+    ensures { IfSome result (Tells w h rings.now r x 0 64 free first) }
 {
+    let bare = Told { got: 0, most: 0 };
     if w <= x {
-        return Told {
-            good: true,
-            got: 0,
-            most: 0,
-        };
+        return Some(bare);
     }
-    let n = numbers::lesser(w - x, 64);
+    let n = (w - x).min(64);
     if free == 0 {
-        return Told {
-            good: crate::marks::none(rings, r * w + x, n),
-            got: 0,
-            most: 0,
-        };
+        return crate::marks::none(rings, r * w + x, n).then_some(bare);
     }
     eights(rings, ones, w, h, r, x, n, free, first)
 }
 
-// Whether the rings of row r are good, by its free and its first pixels; and whether each pixel of `hang` has one. Those that have one
+// What row r tells, where its rings are good by its free and its first pixels; and whether each pixel of `hang` has one. Those that have one
 // go to `got`.
 pub fn row(
     rings: &[u16],
@@ -98,34 +85,24 @@ pub fn row(
     w: usize,
     h: usize,
     r: usize,
-) -> Line
+) -> Option<Line>
     requires fits { (Sized w h × (length rings.now ≡ h * w)) × ((r < h) × Ones ones.now) }
     requires rows { (length free.now ≡ 4) × ((length first.now ≡ 4) × ((length hang.now ≡ 4) × (length got.old ≡ 4))) }
-    ensures good { result.rings ≡ true → (c : ℕ) → c < w → Good w h (word_bit free.now c) (word_bit first.now c) rings.now r c }
-    ensures held { result.held ≡ true → (c : ℕ) → c < w → word_bit hang.now c ≡ true → 0 < get_or rings.now (r * w + c) 0 }
-    ensures told { result.rings ≡ true → (c : ℕ) → c < w → (get_or rings.now (r * w + c) 0 ≤ result.most)
-        × (0 < get_or rings.now (r * w + c) 0 → word_bit got.new c ≡ true) }
+    ensures good { IfSome result (λ _. (c : ℕ) → c < w → Good w h (word_bit free.now c) (word_bit first.now c) rings.now r c) }
+    ensures held { IfSome result (λ l. l.held ≡ true → (c : ℕ) → c < w → word_bit hang.now c ≡ true → 0 < get_or rings.now (r * w + c) 0) }
+    ensures told { IfSome result (λ l. (c : ℕ) → c < w → (get_or rings.now (r * w + c) 0 ≤ l.most)
+        × (0 < get_or rings.now (r * w + c) 0 → word_bit got.new c ≡ true)) }
 {
     let mut bare: u64 = 0;
     let mut most: u16 = 0;
-    let mut i = 0;
-    while i < 4 {
-        let t = word(rings, ones, w, h, r, i * 64, free[i], first[i]);
-        if !t.good {
-            return Line {
-                rings: false,
-                held: false,
-                most,
-            };
-        }
-        bare = bare | (hang[i] & !t.got);
-        most = most | t.most;
+    for i in 0..4 {
+        let t = word(rings, ones, w, h, r, i * 64, free[i], first[i])?;
+        bare |= hang[i] & !t.got;
+        most |= t.most;
         got[i] = t.got;
-        i += 1;
     }
-    Line {
-        rings: true,
+    Some(Line {
         held: bare == 0,
         most,
-    }
+    })
 }

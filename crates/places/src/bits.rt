@@ -1,13 +1,21 @@
 // Bits of bytes and pixels of rows, and the first of them that passes.
-ghost use Rattle.std.specs.Prelude.{◌≡◌, ◌+◌, ◌-◌, ◌/◌, ◌<◌, ◌≤◌, length, unwrap_or, IfSome};
+ghost use Rattle.std.specs.Prelude.{◌≡◌, ◌+◌, ◌-◌, ◌/◌, ◌%◌, ◌^◌, ◌<◌, ◌≤◌, eqb, length, unwrap_or, IfSome};
 ghost use Rattle.rules.specs.Images.{bit_at};
 ghost use Rattle.places.specs.Search.{FirstOf, bit_in};
+
+// The binary digit of a number at place e, counted from the lowest.
+pub fn digit(x: u64, e: usize) -> bool
+    requires { e < 64 }
+    ensures { result ≡ eqb (x / 2 ^ e % 2) 1 }
+{
+    (x >> e) & 1 == 1
+}
 
 pub fn bit(m: u8, k: usize) -> bool
     requires { k < 8 }
     ensures { result ≡ bit_at m k }
 {
-    (m >> (7 - k)) & 1 == 1
+    digit(u64::from(m), 7 - k)
 }
 
 // The first bit that is set, from column `from` on and before `to`.

@@ -1,6 +1,5 @@
-use mathlib.Core.Path.{sym}
+use Rattle.std.proofs.Common.{sym, ◌∙◌}
 use Rattle.leans.specs.BitLaws.{bit_at_lem}
-use mathlib.Core.Path.{◌∙◌}
 use Rattle.leans.proofs.bits.column_at.Goals as goal
 
 pub returns : goal.returns

@@ -1,10 +1,5 @@
-use lib.ListN.{get_or}
-use mathlib.Core.Path.{◌≡◌}
-use Prim.Native.Nat.{ℕ, ◌+◌, ◌≤◌, ◌<◌, ◌-◌}
+use Rattle.std.proofs.Common.{◌≡◌, ℕ, ◌+◌, ◌*◌, ◌<◌, get_or}
 use Rattle.leans.proofs.marks.quiet.Given as goal
 
-abbrev pub invariant-loop-j : goal.invariant-loop-j
-invariant-loop-j l = (l.j ≤ l.n) × (l.all ≡ 0 → (k : ℕ) → k < l.j → get_or l.rings (l.x + k) 0 ≡ 0)
-
-abbrev pub decreases-loop-j : goal.decreases-loop-j
-decreases-loop-j l = l.n - l.j
+abbrev pub invariant-loop-k : goal.invariant-loop-k
+invariant-loop-k l = l.all ≡ 0 → (j : ℕ) → j < l.k * 256 → get_or l.rings (l.x + j) 0 ≡ 0
