@@ -7,8 +7,10 @@ use Rattle.std.specs.Int.{w64, to_be_bytes}
 use Rattle.std.specs.Int.Bits.{bit_and, bit_or}
 use Rattle.std.proofs.lemmas.Nat.{shl-shr}
 use Rattle.std.proofs.Math.Pow.{pow-lt, low}
+use Rattle.rules.specs.Images.{bit_at}
 use Rattle.laws.specs.Tests.{split, clash, and_in}
 use Rattle.words.specs.Words.{Digits, place, bit_of_word, flat, word_bit, row_at}
+use Rattle.words.specs.OneLaws.{byte_bit}
 use Rattle.words.specs.Digits.{place_shr, place_mod_below, place_small, place_zero, place_and, place_or, place_not}
 
 -- the bit of a list of words
@@ -21,7 +23,7 @@ unfolding flat bit_of_word
 bit_at_lem l c = refl
 
 -- the bytes of a word, the highest first
-pub byte_at_lem : (x b : ℕ) → b < 8 → get_or (to_be_bytes w64 x) b 0 ≡ x / 2 ^ (56 - 8 * b) % 2 ^ 8
+byte_at_lem : (x b : ℕ) → b < 8 → get_or (to_be_bytes w64 x) b 0 ≡ x / 2 ^ (56 - 8 * b) % 2 ^ 8
 byte_at_lem x zero l = refl
 byte_at_lem x (suc zero) l = refl
 byte_at_lem x (suc (suc zero)) l = refl
@@ -31,6 +33,9 @@ byte_at_lem x (suc (suc (suc (suc (suc zero))))) l = refl
 byte_at_lem x (suc (suc (suc (suc (suc (suc zero)))))) l = refl
 byte_at_lem x (suc (suc (suc (suc (suc (suc (suc zero))))))) l = omega arith
 byte_at_lem x (suc (suc (suc (suc (suc (suc (suc (suc b)))))))) l = absurd (omega arith)
+
+pub byte_of_word : (x b j : ℕ) → b < 8 → j < 8 → bit_at (get_or (to_be_bytes w64 x) b 0) j ≡ bit_of_word x (8 * b + j)
+byte_of_word x b j lb lj = ap (λ (v : ℕ). bit_at v j) (byte_at_lem x b lb) ∙ byte_bit x b j lb lj
 
 -- the row at the start of a list
 pub row_start : (l : List ℕ) (c : ℕ) → c < 256 → row_at l 0 c ≡ word_bit l c

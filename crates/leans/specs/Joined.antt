@@ -1,8 +1,9 @@
 -- Laws of rings joined, of eight rings at once, of the neighbours and of a good ring.
-use Rattle.std.specs.Prelude.{◌≡◌, refl, Bool, true, false, not, ◌&&◌, ◌||◌, cond, List, ℕ, zero, suc, ◌+◌, ◌-◌, ◌*◌, ◌/◌, ◌^◌, ◌<◌, ◌≤◌, ltb, eqb, length, get_or, set, Option, IfSome}
+use Rattle.std.specs.Prelude.{◌≡◌, refl, Bool, true, false, not, ◌&&◌, ◌||◌, cond, List, [], ◌∷◌, ℕ, zero, suc, ◌+◌, ◌-◌, ◌*◌, ◌/◌, ◌^◌, ◌<◌, ◌≤◌, ltb, eqb, length, get_or, set, Option, IfSome}
 use Rattle.std.proofs.Common.{sym, ap, subst, ◌∙◌, arith, below_more, ltb-true, ltb-false, lt-ltb, le-ltb, eq-eqb, ne_eqb, get_or-set_same, get_or-set_other}
 use Rattle.std.proofs.Math.Decide.{dec_lt}
 use Rattle.std.specs.Bool.{then_some}
+use Rattle.std.specs.Int.{w64, to_be_bytes}
 use Rattle.std.specs.Int.Bits.{bit_and, bit_or, bit_xor, or_add_and, xor_add_and}
 use Rattle.std.proofs.lemmas.Nat.{and_le_l, and_le_r}
 use Rattle.rules.specs.Tools.{bit}
@@ -13,9 +14,9 @@ use Rattle.places.specs.Search.{Sized}
 use Rattle.places.specs.Planes.{in_plane}
 use Rattle.places.specs.Rows.{area_fit}
 use Rattle.words.specs.Words.{bit_of_word, word_bit}
-use Rattle.leans.specs.Leaning.{Alike, Step, Good, Got, Tells}
+use Rattle.leans.specs.Leaning.{About, Alike, Step, Good, Got, Tells}
 use Rattle.leans.specs.declared.Told.{Told}
-use Rattle.leans.specs.BitLaws.{bit_zero, bit_or_lem, bit_at_lem, word_bit_lem, covered_bit}
+use Rattle.leans.specs.BitLaws.{bit_zero, bit_or_lem, bit_at_lem, word_bit_lem, covered_bit, byte_of_word}
 
 -- Rings joined -----------------------------------------------------------------------------------------------------------
 
@@ -58,32 +59,27 @@ bit_small false = omega arith
 pub xor_same : (a b : ℕ) → bit_xor a b ≡ 0 → a ≡ b
 xor_same a b e = omega (arith, xor_add_and a b, and_le_l a b, and_le_r a b)
 
--- a byte of the word, and its rings
-pub alike_byte : (rings : List ℕ) (x m b v : ℕ) → ((j : ℕ) → j < 8 → bit_at v j ≡ bit_of_word m (8 * b + j)) → ((k : ℕ) → k < 8 → get_or rings (x + 8 * b + k) 0 ≡ bit (bit_at v k)) → Alike rings x m b
-alike_byte rings x m b v byte like k l = like k l ∙ ap bit (byte k l)
+-- The neighbours -----------------------------------------------------------------------------------------------------------
 
--- The neighbours --------------------------------------------------------------------------------------------
+about_inside : (x n : ℕ) → 0 < x → x + 1 < n → About x n ((x - 1) ∷ x ∷ (x + 1) ∷ [])
+about_inside x n lo hi = (refl, among)
+  where
+    among : (i : ℕ) → i < 3 → (get_or ((x - 1) ∷ x ∷ (x + 1) ∷ []) i 0 < n) × ((x ≤ get_or ((x - 1) ∷ x ∷ (x + 1) ∷ []) i 0 + 1) × (get_or ((x - 1) ∷ x ∷ (x + 1) ∷ []) i 0 ≤ x + 1))
+    among zero l = (omega arith, (omega arith, omega arith))
+    among (suc zero) l = (omega arith, (omega arith, omega arith))
+    among (suc (suc zero)) l = (omega arith, (omega arith, omega arith))
+    among (suc (suc (suc i))) l = absurd (omega arith)
 
-pub step_fits : (w h y c : ℕ) → Sized w h → y < h → c < w → (y * w ≤ 65536) × (y * w + c ≤ 65536)
-step_fits w h y c s ly lc = (omega (arith, in_plane w h y c ly lc, area_fit w h s), omega (arith, in_plane w h y c ly lc, area_fit w h s))
-
-pub step_at : (w h : ℕ) (rings : List ℕ) (r c v y x : ℕ) → (y < h) × ((r ≤ y + 1) × (y ≤ r + 1)) → (x < w) × ((c ≤ x + 1) × (x ≤ c + 1)) →
-    get_or rings (y * w + x) 0 ≡ v → Step w h rings r c v
-step_at w h rings r c v y x (ly, (a, b)) (lx, (d, e)) is =
-    record { row = y; column = x; row_in = ly; column_in = lx; up = a; down = b; left = d; right = e; is = is }
+-- the nine about a pixel that has all eight neighbours lie in the plane
+pub nine_in : (w h r c : ℕ) → 0 < r → r + 1 < h → 0 < c → c + 1 < w → (i j : ℕ) → i < 3 → j < 3 →
+    get_or ((r - 1) ∷ r ∷ (r + 1) ∷ []) i 0 * w + get_or ((c - 1) ∷ c ∷ (c + 1) ∷ []) j 0 < h * w
+nine_in w h r c a b d e i j l k = in_plane w h _ _ ((about_inside r h a b).1 i l).0 ((about_inside c w d e).1 j k).0
 
 -- A good ring --------------------------------------------------------------------------------------------------------------
 
 module _ (w h : ℕ) (free first : Bool) (rings : List ℕ) (r c : ℕ) where
   pub good_none : get_or rings (r * w + c) 0 ≡ 0 → Good w h free first rings r c
   good_none e = record { first_inside = λ o. absurd (omega arith); free_inside = λ l. absurd (omega arith); leans = λ l. absurd (omega arith) }
-
-  module _ (v : ℕ) (e : v ≡ get_or rings (r * w + c) 0) (b : Bool) (t : b ≡ true) where
-    pub good_first : v ≡ 1 → b ≡ first → Good w h free first rings r c
-    good_first o eb = record { first_inside = λ _. sym eb ∙ t; free_inside = λ l. absurd (omega arith); leans = λ l. absurd (omega arith) }
-
-    pub good_step : (v ≡ 1 → ⊥) → b ≡ free → Step w h rings r c (v - 1) → Good w h free first rings r c
-    good_step ne eb s = record { first_inside = λ o. absurd (ne (e ∙ o)); free_inside = λ _. sym eb ∙ t; leans = λ _. rw (← e) s }
 
   -- a ring that is 1 at a first pixel, and else 0
   pub good_bit : get_or rings (r * w + c) 0 ≡ bit first → Good w h free first rings r c
@@ -185,13 +181,13 @@ module _ (w h : ℕ) (rings : List ℕ) (r x free first b : ℕ) where
         let y : 8 * b + (k - 8 * b) ≡ k = omega arith in
         rw (z, y) at (like (k - 8 * b) (omega arith))
 
-    pub alike_before : Before (8 * b) → Before (8 * (b + 1))
+    alike_before : Before (8 * b) → Before (8 * (b + 1))
     alike_before old = before_next old (λ k lo hi lw. good_bit w h (bit_of_word free k) (bit_of_word first k) rings r (x + k) (alike_ring k lo hi))
 
-    pub alike_least : (most : ℕ) → AtMost b most → AtMost (b + 1) most
+    alike_least : (most : ℕ) → AtMost b most → AtMost (b + 1) most
     alike_least most old = least_next most most (omega arith) old (λ k lo hi lw. omega (arith, alike_ring k lo hi, bit_small (bit_of_word first k), old.0))
 
-    pub alike_got : (got : ℕ) → b < 8 → GotTo b got → GotTo (b + 1) got
+    alike_got : (got : ℕ) → b < 8 → GotTo b got → GotTo (b + 1) got
     alike_got got lb old = got_next got got old (λ k l out. refl) (λ k lo hi lw.
         old k (omega arith) lw ∙ rw (le-ltb k (8 * b) lo, alike_ring k lo hi) (sym (bit_some (bit_of_word first k))))
 
@@ -230,24 +226,15 @@ upto_told w h rings r x free first b e t T le ge lb got most p patch u = record 
   least = told_least w h rings r x free first b e t T le ge lb most u.least;
 }
 
--- bytes that are alike are passed over: n of them from byte b on
-pub upto_alike : (w h : ℕ) (rings : List ℕ) (r x free first got most b n : ℕ) → b + n ≤ 8 → ((k : ℕ) → b ≤ k → k < b + n → Alike rings (r * w + x) first k) →
-    Upto w h rings r x free first b got most → Upto w h rings r x free first (b + n) got most
-upto_alike w h rings r x free first got most b zero l like u = let z : b + 0 ≡ b = omega arith in rw z u
-upto_alike w h rings r x free first got most b (suc n) l like u =
-    let z : b + 1 + n ≡ b + suc n = omega arith in
-    let a : Alike rings (r * w + x) first b = like b (omega arith) (omega arith) in
-    rw z at (upto_alike w h rings r x free first got most (b + 1) n (omega arith) (λ k lo hi. like k (omega arith) (omega arith)) (record {
+-- byte b too, where its rings are alike: v is that byte
+pub upto_alike : (w h : ℕ) (rings : List ℕ) (r x free first got most b v : ℕ) → b < 8 → v ≡ get_or (to_be_bytes w64 first) b 0 →
+    ((k : ℕ) → k < 8 → get_or rings (r * w + x + 8 * b + k) 0 ≡ bit (bit_at v k)) → Upto w h rings r x free first b got most → Upto w h rings r x free first (b + 1) got most
+upto_alike w h rings r x free first got most b v lb e like u =
+    let a : Alike rings (r * w + x) first b = λ k l. like k l ∙ rw e (ap bit (byte_of_word first b k lb l)) in record {
       good = alike_before w h rings r x free first b a u.good;
-      gets = alike_got w h rings r x free first b a got (omega arith) u.gets;
+      gets = alike_got w h rings r x free first b a got lb u.gets;
       least = alike_least w h rings r x free first b a most u.least;
-    }))
-
-pub upto_next : (w h : ℕ) (rings : List ℕ) (r x free first got most b d : ℕ) → b ≤ d → d ≤ 8 → ((k : ℕ) → b ≤ k → k < d → Alike rings (r * w + x) first k) →
-    Upto w h rings r x free first b got most → Upto w h rings r x free first d got most
-upto_next w h rings r x free first got most b d lo hi like u =
-    let z : b + (d - b) ≡ d = omega arith in
-    rw z at (upto_alike w h rings r x free first got most b (d - b) (omega arith) (λ k a e. like k a (omega arith)) u)
+    }
 
 -- a word without rings
 pub quiet_told : (w h : ℕ) (rings : List ℕ) (r x free first : ℕ) → ((k : ℕ) → k < 64 → x + k < w → get_or rings (r * w + (x + k)) 0 ≡ 0) →

@@ -1,8 +1,12 @@
 -- What the rings of a word and of a row tell: each is good by itself, but for nearness.
-use Rattle.std.specs.Prelude.{◌≡◌, Bool, true, false, List, ℕ, ◌+◌, ◌-◌, ◌*◌, ◌≤◌, ◌<◌, ltb, get_or}
+use Rattle.std.specs.Prelude.{◌≡◌, Bool, true, false, List, ℕ, ◌+◌, ◌-◌, ◌*◌, ◌≤◌, ◌<◌, ltb, length, get_or}
 use Rattle.rules.specs.Tools.{bit}
 use Rattle.words.specs.Words.{bit_of_word}
 use Rattle.leans.specs.declared.Told.{Told}
+
+-- each of three rows or columns, of n in all, is x or beside it
+abbrev pub About : ℕ → ℕ → List ℕ → Type 0
+About x n xs = (length xs ≡ 3) × ((i : ℕ) → i < 3 → (get_or xs i 0 < n) × ((x ≤ get_or xs i 0 + 1) × (get_or xs i 0 ≤ x + 1)))
 
 -- the pixel in row r and column c, or one of its neighbours, has ring v
 pub record Step (w h : ℕ) (rings : List ℕ) (r c v : ℕ) : Type 0 where

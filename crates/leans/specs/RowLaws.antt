@@ -7,9 +7,6 @@ use Rattle.leans.specs.Leaning.{Bare}
 row_of : (y a w c : ℕ) → a ≤ y → a * w + ((y - a) * w + c) ≡ y * w + c
 row_of y a w c l = let z : a + (y - a) ≡ y = omega arith in let e : a * w + (y - a) * w ≡ y * w = sym (add-mul a (y - a) w) ∙ ap (λ (n : ℕ). n * w) z in omega arith
 
-pub rows_end : (a b w : ℕ) → a ≤ b → a * w + (b - a) * w ≡ b * w
-rows_end a b w l = let z : a + (b - a) ≡ b = omega arith in sym (add-mul a (b - a) w) ∙ ap (λ (n : ℕ). n * w) z
-
 -- the rings of a stretch of rows
 pub quiet_rows : (w a b : ℕ) (rings : List ℕ) → ((j : ℕ) → j < (b - a) * w → get_or rings (a * w + j) 0 ≡ 0) → (y : ℕ) → a ≤ y → y < b → Bare w rings y
 quiet_rows w a b rings none y lo hi c l =

@@ -18,14 +18,6 @@ pub fn column_at(l: &[u64], c: usize) -> bool
     bit(l[c / 64], c % 64)
 }
 
-// Byte b of a word.
-pub fn byte(x: u64, b: usize) -> u8
-    requires { b < 8 }
-    ensures { (j : ℕ) → j < 8 → bit_at result j ≡ bit_of_word x (8 * b + j) }
-{
-    x.to_be_bytes()[b]
-}
-
 // The bits of x outside byte b, and those of y.
 pub fn patched(x: u64, y: u64, b: usize) -> u64
     requires { b < 8 }

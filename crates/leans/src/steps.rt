@@ -1,32 +1,51 @@
 // Rings that are good, pixel by pixel: in the free pixels and the first pixels of a word.
-ghost use Rattle.std.specs.Prelude.{◌≡◌, true, ◌+◌, ◌-◌, ◌*◌, ◌<◌, ◌≤◌, length, get_or, slice_index, EachIndex, IfSome};
+ghost use Rattle.std.specs.Prelude.{◌≡◌, true, ℕ, ◌+◌, ◌-◌, ◌*◌, ◌<◌, ◌≤◌, length, get_or, slice_index, IfSome};
 ghost use Rattle.words.specs.Words.{bit_of_word};
 ghost use Rattle.places.specs.Search.{Sized};
-ghost use Rattle.leans.specs.Leaning.{Step, Good, Tells};
+ghost use Rattle.leans.specs.Leaning.{About, Step, Good, Tells};
 
 use crate::Told;
 
 // The rows or columns before, at and behind x, of n in all; x stands in for one that the image lacks.
 fn three(x: usize, n: usize) -> [usize; 3]
     requires { (x < n) × (n ≤ 256) }
-    ensures { EachIndex result (λ i. (slice_index result i < n) × ((x ≤ slice_index result i + 1) × (slice_index result i ≤ x + 1))) }
+    ensures { About x n result }
 {
     [x.saturating_sub(1), x, (x + 1).min(n - 1)]
 }
 
-// Whether a neighbour has ring v, which the pixel itself has not.
-fn steps(rings: &[u16], w: usize, h: usize, r: usize, c: usize, v: u16) -> bool
-    requires { (Sized w h × (length rings.now ≡ h * w)) × ((r < h) × (c < w)) }
-    ensures { result ≡ true → Step w h rings.now r c v }
+// Whether there is a row or column on both sides of x, of n in all.
+fn inside(x: usize, n: usize) -> bool
+    requires { x < n }
+    ensures { result ≡ true → (0 < x) × (x + 1 < n) }
 {
-    for y in three(r, h) {
-        for x in three(c, w) {
+    0 < x && x + 1 < n
+}
+
+// Whether one of the pixels in these rows and columns has ring v.
+fn among(rings: &[u16], w: usize, rows: [usize; 3], columns: [usize; 3], v: u16) -> bool
+    requires { (i j : ℕ) → i < 3 → j < 3 → slice_index rows i * w + slice_index columns j < length rings.now }
+    ensures { result ≡ true → (h r c : ℕ) → About r h rows → About c w columns → Step w h rings.now r c v }
+{
+    for y in rows {
+        for x in columns {
             if rings[y * w + x] == v {
                 return true;
             }
         }
     }
     false
+}
+
+// Whether a neighbour has ring v, which the pixel itself has not. Most have all eight, whose places the compiler then knows.
+fn steps(rings: &[u16], w: usize, h: usize, r: usize, c: usize, v: u16) -> bool
+    requires { (Sized w h × (length rings.now ≡ h * w)) × ((r < h) × (c < w)) }
+    ensures { result ≡ true → Step w h rings.now r c v }
+{
+    if inside(r, h) && inside(c, w) {
+        return among(rings, w, [r - 1, r, r + 1], [c - 1, c, c + 1], v);
+    }
+    among(rings, w, three(r, h), three(c, w), v)
 }
 
 // Whether the pixel at bit k of the word at column x may carry its ring v.

@@ -1,23 +1,11 @@
 // Rings that are good, by words: 64 columns without a free pixel are passed over at once, and so are eight whose rings are 1 at the first
 // pixels and else 0.
-ghost use Rattle.std.specs.Prelude.{◌≡◌, true, ℕ, min, ◌+◌, ◌-◌, ◌*◌, ◌<◌, ◌≤◌, length, get_or, IfSome, MatchOption};
+ghost use Rattle.std.specs.Prelude.{◌≡◌, true, ℕ, min, ◌+◌, ◌-◌, ◌*◌, ◌<◌, ◌≤◌, length, get_or, IfSome};
 ghost use Rattle.words.specs.Words.{word_bit, Ones};
 ghost use Rattle.places.specs.Search.{Sized};
-ghost use Rattle.leans.specs.Leaning.{Alike, Good, Tells};
+ghost use Rattle.leans.specs.Leaning.{Good, Tells};
 
 use crate::{Line, Told};
-
-// The first byte of a word of n columns, from byte b on, that is to be looked at pixel by pixel. Place `at` is the word's first.
-fn next(rings: &[u16], ones: &[u16], at: usize, first: u64, b: usize, n: usize) -> Option<usize>
-    requires { (n ≤ 64) × (64 ≤ n → at + 64 ≤ length rings.now) × (at < 65536) × Ones ones.now × (b ≤ 8) }
-    ensures { MatchOption result ((d : ℕ) × (b ≤ d) × (d ≤ 8) × (n ≤ 8 * d) × ((k : ℕ) → b ≤ k → k < d → Alike rings.now at first k))
-        (λ d. (b ≤ d) × (8 * d < n) × ((k : ℕ) → b ≤ k → k < d → Alike rings.now at first k)) }
-{
-    if n < 64 {
-        return (8 * b < n).then_some(b);
-    }
-    crate::eights::unlike(rings, ones, at, first, b)
-}
 
 // The word at column x, of which the image has n columns: the bytes whose rings are not alike, pixel by pixel.
 fn eights(
@@ -35,15 +23,17 @@ fn eights(
     ensures { IfSome result (Tells w h rings.now r x 0 64 free first) }
 {
     let at = r * w + x;
+    let bytes = first.to_be_bytes();
     let mut got = first;
     let mut most: u16 = 1;
-    let mut from = 0;
-    while let Some(b) = next(rings, ones, at, first, from, n) {
+    for b in 0..(n + 7) / 8 {
+        if 8 * b + 8 <= n && crate::eights::alike(rings, ones, at + 8 * b, bytes[b]) {
+            continue;
+        }
         let end = (8 * b + 8).min(n);
         let t = crate::steps::pixels(rings, w, h, r, x, 8 * b, end, free, first)?;
         got = crate::bits::patched(got, t.got, b);
         most |= t.most;
-        from = b + 1;
     }
     Some(Told { got, most })
 }

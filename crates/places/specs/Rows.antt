@@ -70,12 +70,6 @@ module _ (n u i : ℕ) (f g : ℕ → Bool) (l : i < n) (before : (y : ℕ) → 
 pub bytes_in : (w h row at rb len : ℕ) → at ≡ row * rb → rb ≡ row_bytes w → row < h → len ≡ h * row_bytes w → at + row_bytes w ≤ len
 bytes_in w h row at rb len ea er l el = let z : at ≡ row * row_bytes w = ea ∙ rw er in omega (arith, row_in row h (row_bytes w) l)
 
--- the bytes of a plane lie in its stack
-pub plane_in : (w h n i a k len : ℕ) → a ≡ i * k → k ≡ h * row_bytes w → i < n → len ≡ n * h * row_bytes w → a + k ≤ len
-plane_in w h n i a k len ea ek l el =
-    let z : n * k ≡ n * h * row_bytes w = rw ek (sym (mul_assoc n h (row_bytes w))) in
-    omega (arith, row_in i n k l)
-
 -- sizes
 pub area_fit : (w h : ℕ) → Sized w h → h * w ≤ 65536
 area_fit w h s = mul-le-mul s.h_high s.w_high
@@ -89,10 +83,6 @@ stack_fit n u m a b = mul-le-mul a b
 -- the bytes of a plane, as the code counts them
 pub plane_bytes_lem : (w h rb len : ℕ) → rb ≡ row_bytes w → len ≡ h * row_bytes w → h * rb ≡ len
 plane_bytes_lem w h rb len er el = rw (er, el)
-
--- a plane cut out of its stack
-pub cut_plane : (w h n i a k : ℕ) (s : List ℕ) → a ≡ i * k → k ≡ h * row_bytes w → i < n → length s ≡ n * h * row_bytes w → length (cut a (a + k) s) ≡ h * row_bytes w
-cut_plane w h n i a k s ea ek l es = cut_length a (a + k) k s refl (plane_in w h n i a k (length s) ea ek l es) ∙ ek
 
 -- pair i of the n - 1: both its planes lie in the stack, and its rings in the ring planes
 pub pair_in : (w h n i at bytes x : ℕ) → bytes ≡ h * row_bytes w → at ≡ i * bytes → x ≡ i * (h * w) → i < n - 1 →
