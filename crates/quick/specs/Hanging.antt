@@ -1,6 +1,7 @@
 -- Laws of the bytes of a pair: without shadow, and without support that hangs.
 use Rattle.std.specs.Prelude.{◌≡◌, refl, Bool, true, false, not, ◌&&◌, ◌||◌, List, ℕ, ◌+◌, ◌*◌, ◌/◌, ◌%◌, ◌<◌, eqb, get_or}
 use Rattle.std.proofs.Common.{arith}
+use Rattle.std.proofs.Math.Arith.{digits_div, digits_mod}
 use borrow.Author.Tests.{ne_eqb}
 use Rattle.rules.specs.Images.{row_bytes, bit_at}
 use Rattle.rules.specs.Planning.{shadow}
@@ -9,7 +10,7 @@ use Rattle.image.specs.Packed.{row_bit_lem}
 use Rattle.image.specs.Rows.{packed}
 use Rattle.places.specs.Search.{unheld_here}
 use Rattle.places.specs.Rows.{byte_of_lem}
-use Rattle.quick.specs.Sureness.{NoShadow, NoneHangs}
+use Rattle.quick.specs.Sureness.{NoShadow, NoneHangs, Shadeless}
 
 and_none : (a b : Bool) → (a && false && b) ≡ false
 and_none true b = refl
@@ -29,6 +30,13 @@ lacks_cases true true below e s b = clash s refl
 lacks_cases false true true e s b = clash refl b
 lacks_cases false true false e s b = clash refl e
 lacks_cases low false below e s b = clash s refl
+
+-- no pixel of a row is in the shadow where none of its bytes is
+pub dark_row : (w rb r : ℕ) → rb ≡ row_bytes w → (low up : List ℕ) → ((j : ℕ) → j < rb → NoShadow low up (r * rb + j)) → Shadeless w low up r
+unfolding shadow packed row_bytes
+dark_row w rb r e low up none c l =
+    let b : c / 8 < rb = omega arith in
+    rw (digits_div r l, digits_mod r l, ← e, row_bit_lem low (r * rb) c, row_bit_lem up (r * rb) c) (none (c / 8) b (c % 8) (omega arith))
 
 module _ (w h n : ℕ) (e : n ≡ h * row_bytes w) where
   at_byte : (s : List ℕ) (p : ℕ) → packed w s p ≡ bit_at (get_or s (p / w * row_bytes w + p % w / 8) 0) (p % w % 8)

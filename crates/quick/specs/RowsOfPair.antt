@@ -1,5 +1,5 @@
 -- From good rows to a pair without a bad ring and without an unheld pixel.
-use Rattle.std.specs.Prelude.{◌≡◌, refl, Bool, false, not, ◌&&◌, ◌||◌, List, ℕ, ◌+◌, ◌-◌, ◌*◌, ◌/◌, ◌%◌, ◌<◌, ◌≤◌, min, ltb, eqb, leb, get_or}
+use Rattle.std.specs.Prelude.{◌≡◌, refl, Bool, not, ◌&&◌, ◌||◌, List, ℕ, ◌+◌, ◌-◌, ◌*◌, ◌/◌, ◌%◌, ◌<◌, ◌≤◌, min, ltb, eqb, leb, get_or}
 use Rattle.std.proofs.Common.{sym, ap, subst, ◌∙◌, div-add-mod', arith}
 use Rattle.std.proofs.Math.Bool.{true}
 use borrow.Author.Tests.{ltb-true, ltb-false, lt-ltb, eqb-true, eqb-false, leb-true}
@@ -59,9 +59,6 @@ module _ (w h rb r : ℕ) (er : rb ≡ row_bytes w) where
   pub shadow_part_lem : (low up : List ℕ) (c : ℕ) → c < w → shadow (packed w low) (packed w up) (r * w + c) ≡ shadow_part low up (r * rb) rb c
   unfolding shadow shadow_part
   shadow_part_lem low up c l = rw (packed_part up r c l, packed_part low r c l)
-
-  pub shadeless : (low up : List ℕ) (f : ℕ → Bool) → ((c : ℕ) → f c ≡ shadow_part low up (r * rb) rb c) → ((c : ℕ) → f c ≡ false) → Shadeless w low up r
-  shadeless low up f is none c l = shadow_part_lem low up c l ∙ sym (is c) ∙ none c
 
   -- a shadow pixel without support below hangs
   pub hung_held : (low up below rings : List ℕ) (sh be ha : ℕ → Bool) → ((c : ℕ) → sh c ≡ shadow_part low up (r * rb) rb c) → ((c : ℕ) → be c ≡ row_part below (r * rb) rb c) →

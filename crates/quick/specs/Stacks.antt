@@ -7,8 +7,8 @@ use Rattle.image.specs.Rows.{packed, Clean}
 use Rattle.image.specs.Packed.{plane_clean}
 use Rattle.places.specs.Search.{bad_here, unheld_here}
 use Rattle.places.specs.Planes.{cut, bad_plane, unheld_plane}
-use Rattle.places.specs.Rows.{pair_in, lower_length, upper_length, rings_length, area_fit, stack_fit, bytes_fit}
-use Rattle.quick.specs.Sureness.{Whole, Fine, Long}
+use Rattle.places.specs.Rows.{pair_in, rings_length, area_fit, stack_fit, bytes_fit}
+use Rattle.quick.specs.Sureness.{Whole, Fine}
 use Rattle.quick.specs.declared.Sure.{Sure}
 
 -- a plane cut out of a stack without padding bits
@@ -44,14 +44,6 @@ module _ {w h n rb at x : ℕ} {part sup rings : List ℕ} (i : ℕ) (W : Whole 
 
   pub pair_clean : Clean w h (cut at (at + h * rb) part)
   pair_clean = cut_clean w h n i at (h * rb) part ea bytes_is (omega arith) W.part_long W.clear
-
-  pub pair_long : Long (h * row_bytes w) (cut at (at + h * rb) part) (cut (at + h * rb) (at + h * rb + h * rb) part) (cut at (at + h * rb) sup) (cut (at + h * rb) (at + h * rb + h * rb) sup)
-  pair_long = record {
-    low_long = omega (arith, lower_length w h n i at (h * rb) x bytes_is ea ex li part W.part_long);
-    up_long = omega (arith, upper_length w h n i at (h * rb) x bytes_is ea ex li part W.part_long);
-    below_long = omega (arith, lower_length w h n i at (h * rb) x bytes_is ea ex li sup W.sup_long);
-    above_long = omega (arith, upper_length w h n i at (h * rb) x bytes_is ea ex li sup W.sup_long);
-  }
 
   pub pair_count : length (cut x (x + h * w) rings) ≡ h * w
   pair_count = rings_length w h n i at (h * rb) x bytes_is ea ex li rings W.rings_long

@@ -10,9 +10,7 @@ pub fn read(s: &[u8], out: &mut [u64], w: usize, h: usize)
     ensures { Drawn w h (packed w s.now) out.new }
 {
     let rb = limits::row_bytes(w);
-    let mut r = 0;
-    while r < h {
+    for r in 0..h {
         planes::rows::put(out, r + 33, words::rows::read(s, r * rb, rb));
-        r += 1;
     }
 }

@@ -24,18 +24,10 @@ pub struct Seen {
     pub hung: u8,
 }
 
-// What a row tells: whether its rings are good but for nearness, whether each pixel that hangs has one, and in `far` the pixels whose ring
-// may be far.
+// What a row tells whose rings are good but for nearness: whether each pixel that hangs has one, and in `far` the pixels whose ring may be
+// far.
 #[derive(Clone, Copy)]
 pub struct Passed {
-    pub rings: bool,
     pub held: bool,
     pub far: Row,
-}
-
-// Whether far rings are near, and whether the lower layer is drawn in scratch by now.
-#[derive(Clone, Copy)]
-pub struct Close {
-    pub good: bool,
-    pub drawn: bool,
 }

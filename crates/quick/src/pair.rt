@@ -1,5 +1,5 @@
 // What is sure of a pair: row by row, and only where there is shadow.
-ghost use Rattle.std.specs.Prelude.{◌≡◌, true, false, ℕ, ◌+◌, ◌*◌, ◌<◌, ◌≤◌, length, get_or};
+ghost use Rattle.std.specs.Prelude.{◌≡◌, true, false, ℕ, ◌+◌, ◌*◌, ◌<◌, ◌≤◌, length, get_or, IfSome, MatchOption};
 ghost use Rattle.rules.specs.Images.{row_bytes};
 ghost use Rattle.rules.specs.Planning.{near};
 ghost use Rattle.rules.specs.Reach.{most_bound};
@@ -11,11 +11,11 @@ ghost use Rattle.places.specs.Search.{Sized, bad_here, unheld_here};
 ghost use Rattle.leans.specs.Leaning.{Bare};
 ghost use Rattle.quick.specs.Sureness.{Long, Shadeless, RowSound, RowGood, RowHeld};
 
-use crate::{Close, Passed, Sure};
+use crate::{Passed, Sure};
 use rules::Bound;
 use words::Row;
 
-// Row r. Rings of at most t are near by themselves.
+// What row r tells, where its rings are good but for nearness. Rings of at most t are near by themselves.
 fn shaded_row(
     low: &[u8],
     up: &[u8],
@@ -26,15 +26,15 @@ fn shaded_row(
     h: usize,
     r: usize,
     t: u16,
-) -> Passed
+) -> Option<Passed>
     requires fits { (Sized w h × (r < h)) × (Clean w h low.now × (Long (h * row_bytes w) low.now up.now below.now below.now × (length rings.now ≡ h * w))) }
     requires table { Ones ones.now }
-    ensures row_sound { result.rings ≡ true → RowSound w h t (column result.far) low.now up.now rings.now r }
-    ensures row_held { result.held ≡ true → RowHeld w low.now up.now below.now rings.now r }
+    ensures row_sound { IfSome result (λ s. RowSound w h t (column s.far) low.now up.now rings.now r) }
+    ensures row_held { IfSome result (λ s. s.held ≡ true → RowHeld w low.now up.now below.now rings.now r) }
 {
     let rb = limits::row_bytes(w);
-    let above = numbers::less(r, 1);
-    let under = numbers::lesser(r + 1, h - 1);
+    let above = r.saturating_sub(1);
+    let under = (r + 1).min(h - 1);
     let seed = crate::rows::seed_rows(low, up, above * rb, r * rb, under * rb, rb);
     let shadow = crate::rows::shadow_row(low, up, r * rb, rb);
     let mut firsts = [0u64; 4];
@@ -48,12 +48,11 @@ fn shaded_row(
         crate::rows::not_in(shadow, below, r * rb, rb),
     );
     let mut got = [0u64; 4];
-    let s = leans::words64::row(rings, ones, &frees, &firsts, &hangs, &mut got, w, h, r);
-    Passed {
-        rings: s.rings,
+    let s = leans::words64::row(rings, ones, &frees, &firsts, &hangs, &mut got, w, h, r)?;
+    Some(Passed {
         held: s.held,
         far: far_of(&got, s.most, t),
-    }
+    })
 }
 
 // The pixels of `got` where a ring may be larger than t, and else none.
@@ -67,23 +66,22 @@ fn far_of(got: &[u64], most: u16, t: u16) -> Row
     words::rows::none()
 }
 
-// The first row from row `from` on that has shadow, or h.
-fn shaded(low: &[u8], up: &[u8], w: usize, h: usize, from: usize) -> usize
+// The first row from row `from` on that has shadow.
+fn shaded(low: &[u8], up: &[u8], w: usize, h: usize, from: usize) -> Option<usize>
     requires { Sized w h × ((from ≤ h) × Long (h * row_bytes w) low.now up.now low.now low.now) }
-    ensures { (from ≤ result) × (result ≤ h) × ((y : ℕ) → from ≤ y → y < result → Shadeless w low.now up.now y) }
+    ensures { MatchOption result ((y : ℕ) → from ≤ y → y < h → Shadeless w low.now up.now y)
+        (λ r. (from ≤ r) × (r < h) × ((y : ℕ) → from ≤ y → y < r → Shadeless w low.now up.now y)) }
 {
     let rb = limits::row_bytes(w);
-    let mut r = from;
-    while r < h {
-        if words::rows::any(crate::rows::shadow_row(low, up, r * rb, rb)) {
-            return r;
+    for r in from..h {
+        if crate::looks::shaded(low, up, r * rb, rb) {
+            return Some(r);
         }
-        r += 1;
     }
-    r
+    None
 }
 
-// Row r, which may have shadow, and the rows from row `from` on before it, which have none and so no ring.
+// The same of row r, which may have shadow, and of the rows from row `from` on before it, which have none and so no ring.
 fn row(
     low: &[u8],
     up: &[u8],
@@ -95,19 +93,15 @@ fn row(
     from: usize,
     r: usize,
     t: u16,
-) -> Passed
+) -> Option<Passed>
     requires fits { (Sized w h × (r < h)) × (Clean w h low.now × (Long (h * row_bytes w) low.now up.now below.now below.now × (length rings.now ≡ h * w))) }
     requires table { Ones ones.now × (from ≤ r) }
-    ensures bare { result.rings ≡ true → (y : ℕ) → from ≤ y → y < r → Bare w rings.now y }
-    ensures row_sound { result.rings ≡ true → RowSound w h t (column result.far) low.now up.now rings.now r }
-    ensures row_held { result.held ≡ true → RowHeld w low.now up.now below.now rings.now r }
+    ensures bare { IfSome result (λ _. (y : ℕ) → from ≤ y → y < r → Bare w rings.now y) }
+    ensures row_sound { IfSome result (λ s. RowSound w h t (column s.far) low.now up.now rings.now r) }
+    ensures row_held { IfSome result (λ s. s.held ≡ true → RowHeld w low.now up.now below.now rings.now r) }
 {
     if !leans::marks::bare(rings, from, r, w) {
-        return Passed {
-            rings: false,
-            held: false,
-            far: words::rows::none(),
-        };
+        return None;
     }
     shaded_row(low, up, below, rings, ones, w, h, r, t)
 }
@@ -123,7 +117,7 @@ fn draw(low: &[u8], disc: &mut [u64], w: usize, h: usize, drawn: bool)
     crate::layers::read(low, disc, w, h);
 }
 
-// Whether the pixels of `far`, in row r, are near. The lower layer is drawn when it is first needed.
+// Whether the lower layer is drawn in scratch by now, where the pixels of `far`, in row r, are near. It is drawn when it is first needed.
 fn near_all(
     low: &[u8],
     disc: &mut [u64],
@@ -134,21 +128,21 @@ fn near_all(
     r: usize,
     q: Bound,
     drawn: bool,
-) -> Close
+) -> Option<bool>
     requires fits { (Sized w h × (r < h)) × (Clean w h low.now × (Halves q.0 halves.now × (q.0 ≤ most_bound))) }
     requires scratch { Ready w h disc.old × (drawn ≡ true → Drawn w h (packed w low.now) disc.old) }
-    ensures nearby { result.good ≡ true → (c : ℕ) → c < w → column far c ≡ true → near w h q.0 (packed w low.now) (r * w + c) ≡ true }
-    ensures ready { Ready w h disc.new × (result.drawn ≡ true → Drawn w h (packed w low.now) disc.new) }
+    ensures nearby { IfSome result (λ _. (c : ℕ) → c < w → column far c ≡ true → near w h q.0 (packed w low.now) (r * w + c) ≡ true) }
+    ensures ready { Ready w h disc.new × IfSome result (λ drawn. drawn ≡ true → Drawn w h (packed w low.now) disc.new) }
 {
     if !words::rows::any(far) {
-        return Close { good: true, drawn };
+        return Some(drawn);
     }
     draw(low, disc, w, h, drawn);
     let close = planes::nearness::near_row(disc, r, halves, q);
-    Close {
-        good: !words::rows::any(words::rows::but_not(far, close)),
-        drawn: true,
+    if words::rows::any(words::rows::but_not(far, close)) {
+        return None;
     }
+    Some(true)
 }
 
 // All rows. Those with far rings are held against the plane `disc`.
@@ -170,23 +164,23 @@ fn rows(
     ensures row_good { result.rings ≡ true → (r : ℕ) → r < h → RowGood w h q.0 t low.now up.now rings.now r }
     ensures row_held { result.held ≡ true → (r : ℕ) → r < h → RowHeld w low.now up.now below.now rings.now r }
 {
+    let unsure = Sure {
+        rings: false,
+        held: false,
+    };
     let mut held = true;
     let mut drawn = false;
     let mut from = 0;
-    let mut r = shaded(low, up, w, h, 0);
-    while r < h {
-        let s = row(low, up, below, rings, ones, w, h, from, r, t);
-        let n = near_all(low, disc, halves, s.far, w, h, r, q, drawn);
-        if !numbers::both(s.rings, n.good) {
-            return Sure {
-                rings: false,
-                held: false,
-            };
-        }
-        held = numbers::both(held, s.held);
-        drawn = n.drawn;
+    while let Some(r) = shaded(low, up, w, h, from) {
+        let Some(s) = row(low, up, below, rings, ones, w, h, from, r, t) else {
+            return unsure;
+        };
+        let Some(now) = near_all(low, disc, halves, s.far, w, h, r, q, drawn) else {
+            return unsure;
+        };
+        drawn = now;
+        held = held && s.held;
         from = r + 1;
-        r = shaded(low, up, w, h, from);
     }
     Sure {
         rings: leans::marks::bare(rings, from, h, w),
@@ -262,6 +256,6 @@ pub fn pair(
     let s = shaded_pair(low, up, below, rings, ones, halves, w, h, q, t);
     Sure {
         rings: s.rings,
-        held: numbers::both(s.held, seen.hung == 0),
+        held: s.held && seen.hung == 0,
     }
 }

@@ -26,12 +26,11 @@ fn pairs(
 {
     let bytes = h * limits::row_bytes(w);
     let area = h * w;
-    let mut at = 0;
-    let mut x = 0;
-    let mut i = 0;
-    while i + 1 < n {
+    for i in 0..n - 1 {
+        let at = i * bytes;
         let mid = at + bytes;
         let end = mid + bytes;
+        let x = i * area;
         let next = x + area;
         let s = crate::pair::pair(
             &part[at..mid],
@@ -46,21 +45,11 @@ fn pairs(
             q,
             t,
         );
-        if !numbers::both(s.rings, s.held) {
+        if !(s.rings && s.held) {
             return false;
         }
-        at = mid;
-        x = next;
-        i += 1;
     }
     true
-}
-
-fn narrow(x: usize) -> u16
-    requires { x < 65536 }
-    ensures { result ≡ x }
-{
-    x as u16
 }
 
 // The largest ring that is near by itself, for the bound q on squared distances.
@@ -68,7 +57,7 @@ pub fn trusted(q: Bound) -> u16
     requires { q.0 ≤ most_bound }
     ensures { 2 * (result * result) ≤ q.0 }
 {
-    narrow(roots::root(q.0 / 2))
+    roots::root(q.0 / 2) as u16
 }
 
 // Whether no ring of the stack is bad and nothing in it is unheld. Only a yes is relied on.

@@ -1,10 +1,6 @@
+use Rattle.std.proofs.Common.{◌≡◌, ℕ, ◌<◌}
 use Rattle.quick.specs.Sureness.{NoShadow, NoneHangs}
-use mathlib.Core.Path.{◌≡◌}
-use Prim.Native.Nat.{ℕ, ◌≤◌, ◌<◌, ◌-◌}
 use Rattle.quick.proofs.looks.look.Given as goal
 
 abbrev pub invariant-loop-j : goal.invariant-loop-j
-invariant-loop-j l = (l.j ≤ l.n) × (l.shade ≡ 0 → (i : ℕ) → i < l.j → NoShadow l.low l.up i) × (l.hung ≡ 0 → (i : ℕ) → i < l.j → NoneHangs l.low l.below l.above i)
-
-abbrev pub decreases-loop-j : goal.decreases-loop-j
-decreases-loop-j l = l.n - l.j
+invariant-loop-j l = (l.shade ≡ 0 → (i : ℕ) → i < l.j → NoShadow l.low l.up i) × (l.hung ≡ 0 → (i : ℕ) → i < l.j → NoneHangs l.low l.below l.above i)
