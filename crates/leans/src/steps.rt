@@ -6,7 +6,9 @@ ghost use Rattle.leans.specs.Leaning.{About, Step, Good, Tells};
 
 use crate::Told;
 
-// The rows or columns before, at and behind x, of n in all; x stands in for one that the image lacks.
+// The rows or columns before, at and behind x, of n in all; x stands in for one that the image lacks. It stays a call: else the compiler works
+// out for every pixel what only those at an edge need.
+#[inline(never)]
 fn three(x: usize, n: usize) -> [usize; 3]
     requires { (x < n) × (n ≤ 256) }
     ensures { About x n result }
