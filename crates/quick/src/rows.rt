@@ -7,6 +7,7 @@ use rules::Pixels;
 use words::Row;
 
 // The row of n bytes that starts at byte a. It is put in place of each call, so that what is done with its words joins the reading of them.
+// Kept: by `words::rows::read`, which is called, a row of seeds takes 40 instructions; where its words are read in place, 17.
 #[inline(always)]
 fn row(s: &[u8], a: usize, n: usize) -> Row
     requires { (n ≤ 32) × (a + n ≤ length s.now) }
