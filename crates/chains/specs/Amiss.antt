@@ -1,5 +1,5 @@
 -- What the searches look for, one definition for both: a bad ring, or an unheld pixel.
-use Rattle.std.specs.Prelude.{◌≡◌, Bool, List, ℕ, ◌+◌, ◌-◌, ◌*◌, ◌<◌, ◌≤◌, length, get_or}
+use Rattle.std.specs.Prelude.{◌≡◌, Bool, List, Option, Some, None, MatchOption, unwrap_or, ℕ, ◌+◌, ◌-◌, ◌*◌, ◌<◌, ◌≤◌, length, get_or}
 use Rattle.std.proofs.Math.Path.{refl}
 use Rattle.std.proofs.Common.{◌∙◌, arith}
 use Rattle.std.proofs.Math.Bool.{true, false}
@@ -7,13 +7,13 @@ use Rattle.rules.specs.Images.{Plane, Stack, row_bytes, pixel, ring_at}
 use Rattle.rules.specs.Planning.{near, seeds, source}
 use Rattle.rules.specs.Judging.{bad_ring, unheld}
 use Rattle.image.specs.Rows.{packed}
-use Rattle.places.specs.Search.{bad_here, unheld_here, flat, Sized}
+use Rattle.places.specs.Search.{FirstOf, bad_here, unheld_here, flat, Sized}
+use Rattle.places.specs.Finding.{least_none, least_one}
 use Rattle.words.specs.Words.{Within}
 use Rattle.planes.specs.Scratch.{Sizes, Framed, Drawn, seen}
 use Rattle.places.specs.Planes.{cut, bad_plane, unheld_plane}
-use Rattle.places.specs.Rows.{lower_length, upper_length}
-use Rattle.quick.specs.Stacks.{bytes_is, pair_count}
-use Rattle.quick.specs.Sureness.{Whole, Long}
+use Rattle.quick.specs.Stacks.{bytes_is}
+use Rattle.quick.specs.Sureness.{Whole}
 use Rattle.quick.specs.RowsOfPair.{put_four}
 use Rattle.quick.specs.Layers.{sizes_of, near_drawn}
 use Rattle.quick.specs.declared.Sure.{Sure}
@@ -45,17 +45,6 @@ pub record Planes (w h : ℕ) (low up below above rings : List ℕ) : Type 0 whe
   pub above_long : length above ≡ h * row_bytes w
   pub rings_long : length rings ≡ h * w
 
-pub low_planes : {w h : ℕ} {low up below above rings : List ℕ} → Planes w h low up below above rings → Planes w h low up low up rings
-low_planes p = record { low_long = p.low_long; up_long = p.up_long; below_long = p.low_long; above_long = p.up_long; rings_long = p.rings_long }
-
-pub planes_long : {w h : ℕ} {low up below above rings : List ℕ} → Planes w h low up below above rings → Long (h * row_bytes w) low up below above
-planes_long p = record {
-  low_long = omega (arith, p.low_long);
-  up_long = omega (arith, p.up_long);
-  below_long = omega (arith, p.below_long);
-  above_long = omega (arith, p.above_long);
-}
-
 -- the near pixels of row r, put into four words
 pub close_row : (w h q r : ℕ) (low disc : List ℕ) (n was out : ℕ → Bool) → Sized w h → r < h → Drawn w h (packed w low) disc →
     ((w h : ℕ) → Sizes w h → Framed w h disc → r < h → (c : ℕ) → c < w → n c ≡ near w h q (seen w disc) (r * w + c)) → Within (0 * 64) ((0 + 4) * 64) (λ j. n (j - 0 * 64)) was out →
@@ -72,26 +61,16 @@ unfolding sure_of amiss_here
 sure_none true w h q low up below above rings s e good held p z l = good e p l
 sure_none false w h q low up below above rings s e good held p z l = held e p l
 
--- pixels of a row, and of a pair, counted through
-pub amiss_row : (ringed : Bool) (w h q : ℕ) (low up below above rings : List ℕ) (r x : ℕ) → x ≡ r * w → (c : ℕ) → c < w
-    → amiss_here ringed w h q low up below above rings (x + c) ≡ amiss_here ringed w h q low up below above rings (r * w + c)
-amiss_row ringed w h q low up below above rings r x e c l = rw e
+-- what `find` over a row's columns answers
+pub first_found : (n : ℕ) (f : ℕ → Bool) (r : Option ℕ) →
+    MatchOption r ((k : ℕ) → 0 ≤ k → k < n → k < n → f k ≡ false) (λ i. (0 ≤ i) × (i < n) × (i < n → f i ≡ true) × ((k : ℕ) → 0 ≤ k → k < i → k < n → f k ≡ false)) →
+    FirstOf 0 n f (unwrap_or r n)
+first_found n f None none = least_none 0 n f (omega arith) (λ k a l. none k a l l)
+first_found n f (Some i) (a, l, hit, before) = least_one 0 n f i a l (λ k b m. before k b m (omega arith)) (hit l)
 
+-- pixels of a pair, counted through
 module _ {w h n rb at x : ℕ} {part sup rings : List ℕ} (i : ℕ) (W : Whole w h n part sup rings) (B : (rb ≡ row_bytes w) × (rb ≤ 32)) (ea : at ≡ i * (h * rb)) (ex : x ≡ i * (h * w))
     (l : i + 1 < n) where
-  pub pair_planes : Planes w h (cut at (at + h * rb) part) (cut (at + h * rb) (at + h * rb + h * rb) part) (cut at (at + h * rb) sup) (cut (at + h * rb) (at + h * rb + h * rb) sup)
-      (cut x (x + h * w) rings)
-  pair_planes =
-      let e = bytes_is i W B ea ex l in
-      let li : i < n - 1 = omega arith in
-      record {
-        low_long = lower_length w h n i at (h * rb) x e ea ex li part W.part_long;
-        up_long = upper_length w h n i at (h * rb) x e ea ex li part W.part_long;
-        below_long = lower_length w h n i at (h * rb) x e ea ex li sup W.sup_long;
-        above_long = upper_length w h n i at (h * rb) x e ea ex li sup W.sup_long;
-        rings_long = pair_count i W B ea ex l;
-      }
-
   pub amiss_pair : (ringed : Bool) (q p : ℕ) → p < h * w → flat w h (amiss_in ringed w h q part sup rings) (x + p)
       ≡ amiss_here ringed w h q (cut at (at + h * rb) part) (cut (at + h * rb) (at + h * rb + h * rb) part) (cut at (at + h * rb) sup) (cut (at + h * rb) (at + h * rb + h * rb) sup)
       (cut x (x + h * w) rings) p

@@ -6,7 +6,10 @@ ghost use Rattle.words.specs.Words.{word_bit};
 ghost use Rattle.places.specs.Search.{bad_here, unheld_here, Sized};
 ghost use Rattle.chains.specs.Amiss.{amiss_here, Planes};
 
+use crate::leaning::{pixel, touches};
+
 // Whether the ring of the pixel is bad. The row's near pixels are those of `close`.
+#[tactic(auto, unfolding(places::specs::Search::bad_here, rules::specs::Planning::fits, rules::specs::Planning::reached, rules::specs::Planning::shadow, crate::specs::Amiss::lender))]
 fn bad(
     low: &[u8],
     up: &[u8],
@@ -23,23 +26,15 @@ fn bad(
         result ≡ bad_here w h q (packed w low.now) (packed w up.now) (λ o. get_or rings.now o 0) (r * w + c) }
 {
     let k = rings[r * w + c];
-    if k == 0 {
-        return false;
-    }
-    let at = r * limits::row_bytes(w);
-    if !places::bits::pixel_at(up, at, c) {
-        return true;
-    }
-    if places::bits::pixel_at(low, at, c) {
-        return true;
-    }
-    if !crate::leaning::touches(low, up, rings, w, h, r, c, k) {
-        return true;
-    }
-    !leans::bits::column_at(close, c)
+    k != 0
+        && !(pixel(up, w, h, r, c)
+            && !pixel(low, w, h, r, c)
+            && leans::bits::column_at(close, c)
+            && touches(low, up, rings, w, h, r, c, k))
 }
 
 // Whether the pixel is unheld.
+#[tactic(auto, unfolding(places::specs::Search::unheld_here))]
 fn unheld(
     low: &[u8],
     up: &[u8],
@@ -56,20 +51,9 @@ fn unheld(
     ensures { result ≡ unheld_here (packed w low.now) (packed w up.now) (packed w below.now) (packed w above.now) (λ o. get_or rings.now o 0)
         (r * w + c) }
 {
-    if rings[r * w + c] != 0 {
-        return false;
-    }
-    let at = r * limits::row_bytes(w);
-    if places::bits::pixel_at(low, at, c) {
-        return false;
-    }
-    if places::bits::pixel_at(below, at, c) {
-        return false;
-    }
-    if places::bits::pixel_at(up, at, c) {
-        return true;
-    }
-    places::bits::pixel_at(above, at, c)
+    (pixel(up, w, h, r, c) || pixel(above, w, h, r, c))
+        && !(pixel(low, w, h, r, c) || pixel(below, w, h, r, c))
+        && rings[r * w + c] == 0
 }
 
 // Whether the ring is bad, where rings are looked for, and else whether the pixel is unheld.
@@ -92,7 +76,8 @@ pub fn amiss(
         result ≡ amiss_here ringed w h q low.now up.now below.now above.now rings.now (r * w + c) }
 {
     if ringed {
-        return bad(low, up, rings, close, w, h, r, c);
+        bad(low, up, rings, close, w, h, r, c)
+    } else {
+        unheld(low, up, below, above, rings, w, h, r, c)
     }
-    unheld(low, up, below, above, rings, w, h, r, c)
 }

@@ -1,5 +1,5 @@
 // The first pixel at which something is amiss: the first bad ring, where rings are looked for, and else the first unheld pixel.
-ghost use Rattle.std.specs.Prelude.{◌≡◌, true, ℕ, ◌+◌, ◌-◌, ◌*◌, ◌<◌, ◌≤◌, length};
+ghost use Rattle.std.specs.Prelude.{◌≡◌, true, unwrap_or, IfSome, ℕ, ◌+◌, ◌-◌, ◌*◌, ◌<◌, ◌≤◌, length};
 ghost use Rattle.rules.specs.Planning.{near};
 ghost use Rattle.rules.specs.Reach.{most_bound};
 ghost use Rattle.laws.specs.Discs.{Halves};
@@ -25,20 +25,16 @@ fn in_columns(
     h: usize,
     r: usize,
     ringed: bool,
-) -> usize
+) -> Option<usize>
     requires fits { Sized w h × (r < h) }
     requires planes { Planes w h low.now up.now below.now above.now rings.now × (length close.now ≡ 4) }
-    ensures { (q : ℕ) → ((c : ℕ) → c < w → word_bit close.now c ≡ near w h q (packed w low.now) (r * w + c)) →
-        FirstOf 0 w (λ c. amiss_here ringed w h q low.now up.now below.now above.now rings.now (r * w + c)) result }
+    ensures first { (q : ℕ) → ((c : ℕ) → c < w → word_bit close.now c ≡ near w h q (packed w low.now) (r * w + c)) →
+        FirstOf 0 w (λ c. amiss_here ringed w h q low.now up.now below.now above.now rings.now (r * w + c)) (unwrap_or result w) }
+    ensures inside { IfSome result (λ c. c < w) }
 {
-    let mut c = 0;
-    while c < w {
-        if crate::pixels::amiss(low, up, below, above, rings, close, w, h, r, c, ringed) {
-            return c;
-        }
-        c += 1;
-    }
-    w
+    (0..w).find(|c| {
+        crate::pixels::amiss(low, up, below, above, rings, close, w, h, r, *c, ringed)
+    })
 }
 
 // The first of a row; the lower layer is in scratch as well.
@@ -55,11 +51,12 @@ fn in_row(
     r: usize,
     q: Bound,
     ringed: bool,
-) -> usize
+) -> Option<usize>
     requires fits { (Sized w h × (r < h)) × (q.0 ≤ most_bound) }
     requires planes { Planes w h low.now up.now below.now above.now rings.now × Drawn w h (packed w low.now) disc.now }
     requires table { Halves q.0 halves.now }
-    ensures { FirstOf 0 w (λ c. amiss_here ringed w h q.0 low.now up.now below.now above.now rings.now (r * w + c)) result }
+    ensures first { FirstOf 0 w (λ c. amiss_here ringed w h q.0 low.now up.now below.now above.now rings.now (r * w + c)) (unwrap_or result w) }
+    ensures inside { IfSome result (λ c. c < w) }
 {
     let mut close = [0u64; 4];
     words::rows::put(
@@ -83,27 +80,24 @@ fn in_rows(
     h: usize,
     q: Bound,
     ringed: bool,
-) -> usize
+) -> Option<usize>
     requires fits { Sized w h × (q.0 ≤ most_bound) }
     requires planes { Planes w h low.now up.now below.now above.now rings.now × Drawn w h (packed w low.now) disc.now }
     requires table { Halves q.0 halves.now }
-    ensures { FirstOf 0 (h * w) (amiss_here ringed w h q.0 low.now up.now below.now above.now rings.now) result }
+    ensures first { FirstOf 0 (h * w) (amiss_here ringed w h q.0 low.now up.now below.now above.now rings.now) (unwrap_or result (h * w)) }
+    ensures inside { IfSome result (λ p. p < h * w) }
 {
-    let mut x = 0;
-    let mut r = 0;
-    while r < h {
-        let c = in_row(
+    for r in 0..h {
+        if let Some(c) = in_row(
             low, up, below, above, rings, disc, halves, w, h, r, q, ringed,
-        );
-        if c < w {
-            return x + c;
+        ) {
+            return Some(r * w + c);
         }
-        x += w;
-        r += 1;
     }
-    x
+    None
 }
 
+#[tactic(auto, unfolding(crate::specs::Amiss::sure_of))]
 fn sure(s: Sure, ringed: bool) -> bool
     ensures { result ≡ sure_of s ringed }
 {
@@ -124,14 +118,15 @@ fn in_pair(
     q: Bound,
     t: u16,
     ringed: bool,
-) -> usize
+) -> Option<usize>
     requires fits { (Sized w h × ((2 * (t * t) ≤ q.0) × (q.0 ≤ most_bound))) × Clean w h low.now }
     requires planes { Planes w h low.now up.now below.now above.now rings.now × (Ones ones.now × Halves q.0 halves.now) }
-    ensures { FirstOf 0 (h * w) (amiss_here ringed w h q.0 low.now up.now below.now above.now rings.now) result }
+    ensures first { FirstOf 0 (h * w) (amiss_here ringed w h q.0 low.now up.now below.now above.now rings.now) (unwrap_or result (h * w)) }
+    ensures inside { IfSome result (λ p. p < h * w) }
 {
     let s = quick::pair::pair(low, up, below, above, rings, ones, halves, w, h, q, t);
     if sure(s, ringed) {
-        return h * w;
+        return None;
     }
     let mut disc = [0u64; 1610];
     quick::layers::read(low, &mut disc, w, h);
@@ -151,21 +146,21 @@ fn in_pairs(
     q: Bound,
     t: u16,
     ringed: bool,
-) -> usize
+) -> Option<usize>
     requires fits { Whole w h n part.now sup.now rings.now }
     requires scratch { (Ones ones.now × Halves q.0 halves.now) × ((2 * (t * t) ≤ q.0) × (q.0 ≤ most_bound)) }
-    ensures { FirstOf 0 ((n - 1) * (h * w)) (flat w h (amiss_in ringed w h q.0 part.now sup.now rings.now)) result }
+    ensures first { FirstOf 0 ((n - 1) * (h * w)) (flat w h (amiss_in ringed w h q.0 part.now sup.now rings.now)) (unwrap_or result ((n - 1) * (h * w))) }
+    ensures inside { IfSome result (λ x. x < (n - 1) * (h * w)) }
 {
     let bytes = h * limits::row_bytes(w);
     let area = h * w;
-    let mut at = 0;
-    let mut x = 0;
-    let mut i = 0;
-    while i + 1 < n {
+    for i in 0..n - 1 {
+        let at = i * bytes;
         let mid = at + bytes;
         let end = mid + bytes;
+        let x = i * area;
         let next = x + area;
-        let p = in_pair(
+        if let Some(p) = in_pair(
             &part[at..mid],
             &part[mid..end],
             &sup[at..mid],
@@ -178,15 +173,11 @@ fn in_pairs(
             q,
             t,
             ringed,
-        );
-        if p < area {
-            return x + p;
+        ) {
+            return Some(x + p);
         }
-        at = mid;
-        x = next;
-        i += 1;
     }
-    x
+    None
 }
 
 // The first of the stack.
@@ -199,9 +190,10 @@ pub fn first(
     n: usize,
     q: Bound,
     ringed: bool,
-) -> usize
+) -> Option<usize>
     requires { Whole w h n part.now sup.now rings.now × (q.0 ≤ most_bound) }
-    ensures { FirstOf 0 ((n - 1) * (h * w)) (flat w h (amiss_in ringed w h q.0 part.now sup.now rings.now)) result }
+    ensures first { FirstOf 0 ((n - 1) * (h * w)) (flat w h (amiss_in ringed w h q.0 part.now sup.now rings.now)) (unwrap_or result ((n - 1) * (h * w))) }
+    ensures inside { IfSome result (λ x. x < (n - 1) * (h * w)) }
 {
     let mut ones = [0u16; 2048];
     words::ones::fill(&mut ones);
