@@ -32,9 +32,12 @@ fn in_columns(
         FirstOf 0 w (λ c. amiss_here ringed w h q low.now up.now below.now above.now rings.now (r * w + c)) (unwrap_or result w) }
     ensures inside { IfSome result (λ c. c < w) }
 {
-    (0..w).find(|c| {
-        crate::pixels::amiss(low, up, below, above, rings, close, w, h, r, *c, ringed)
-    })
+    for c in 0..w {
+        if crate::pixels::amiss(low, up, below, above, rings, close, w, h, r, c, ringed) {
+            return Some(c);
+        }
+    }
+    None
 }
 
 // The first of a row; the lower layer is in scratch as well.

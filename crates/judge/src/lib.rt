@@ -46,25 +46,19 @@ fn verdict(s: Settings, part: &[u8], support: &[u8], rings: &[u16]) -> Judged
     let w = s.w;
     let h = s.h;
     let n = s.n;
-    let area = h * w;
-    let pixels = n * area;
-    let pairs = (n - 1) * area;
-    let o = places::overlaps::overlap_at(part, support, w, h, n);
-    if o < pixels {
-        return Judged::Refused(Refusal::AtPixel(9, place_of(o, w, h, 0)));
+    if let Some(p) = places::overlaps::overlap_at(part, support, w, h, n) {
+        return Judged::Refused(Refusal::AtPixel(9, place_of(p, w, h, 0)));
     }
     let q = limits::bound_of(s);
     if quick::stack::sure(part, support, rings, w, h, n, q) {
         return Judged::Accepted;
     }
-    let b = chains::search::first(part, support, rings, w, h, n, q, true);
-    if b < pairs {
-        return Judged::Refused(Refusal::AtPixel(10, place_of(b, w, h, 1)));
+    if let Some(p) = chains::search::first(part, support, rings, w, h, n, q, true) {
+        return Judged::Refused(Refusal::AtPixel(10, place_of(p, w, h, 1)));
     }
-    let u = chains::search::first(part, support, rings, w, h, n, q, false);
-    if u < pairs {
-        let k = unheld_number(s, part, u);
-        return Judged::Refused(Refusal::AtPixel(k, place_of(u, w, h, 1)));
+    if let Some(p) = chains::search::first(part, support, rings, w, h, n, q, false) {
+        let k = unheld_number(s, part, p);
+        return Judged::Refused(Refusal::AtPixel(k, place_of(p, w, h, 1)));
     }
     Judged::Accepted
 }

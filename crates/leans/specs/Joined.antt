@@ -10,11 +10,9 @@ use Rattle.rules.specs.Tools.{bit}
 use Rattle.rules.specs.Images.{bit_at}
 use Rattle.laws.specs.Tests.{split, or_false, and_true, and_false}
 use Rattle.image.specs.Bits.{or_none}
-use Rattle.places.specs.Search.{Sized}
 use Rattle.places.specs.Planes.{in_plane}
-use Rattle.places.specs.Rows.{area_fit}
 use Rattle.words.specs.Words.{bit_of_word, word_bit}
-use Rattle.leans.specs.Leaning.{About, Alike, Step, Good, Got, Tells}
+use Rattle.leans.specs.Leaning.{About, Alike, Good, Got, Tells}
 use Rattle.leans.specs.declared.Told.{Told}
 use Rattle.leans.specs.BitLaws.{bit_zero, bit_or_lem, bit_at_lem, word_bit_lem, covered_bit, byte_of_word}
 

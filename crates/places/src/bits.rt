@@ -24,7 +24,12 @@ pub fn bit_from(m: u8, from: usize, to: usize) -> Option<usize>
     ensures first { FirstOf from to (λ k. bit_at m k) (unwrap_or result to) }
     ensures inside { IfSome result (λ k. k < to) }
 {
-    (from..to).find(|k| bit(m, *k))
+    for k in from..to {
+        if bit(m, k) {
+            return Some(k);
+        }
+    }
+    None
 }
 
 // The pixel at column c of a row.

@@ -1,4 +1,4 @@
-use Rattle.std.proofs.Common.{◌+◌, ◌*◌, ap, arith, get_or, List, ℕ}
+use Rattle.std.proofs.Common.{ap, arith, get_or, List, ℕ}
 use Rattle.leans.specs.Joined.{upto_alike, upto_told}
 use Rattle.leans.proofs.words64.eights.Goals as goal
 
