@@ -52,12 +52,14 @@ pub fn touches(
 {
     let left = c.saturating_sub(1);
     let right = (c + 2).min(w);
-    for y in r.saturating_sub(1)..(r + 2).min(h) {
+    let mut found = false;
+    'rows: for y in r.saturating_sub(1)..(r + 2).min(h) {
         for x in left..right {
             if lends(low, up, rings, w, h, y, x, k) {
-                return true;
+                found = true;
+                break 'rows;
             }
         }
     }
-    false
+    found
 }

@@ -29,14 +29,16 @@ fn among(rings: &[u16], w: usize, rows: [usize; 3], columns: [usize; 3], v: u16)
     requires { (i j : ℕ) → i < 3 → j < 3 → slice_index rows i * w + slice_index columns j < length rings.now }
     ensures { result ≡ true → (h r c : ℕ) → About r h rows → About c w columns → Step w h rings.now r c v }
 {
-    for y in rows {
+    let mut found = false;
+    'rows: for y in rows {
         for x in columns {
             if rings[y * w + x] == v {
-                return true;
+                found = true;
+                break 'rows;
             }
         }
     }
-    false
+    found
 }
 
 // Whether a neighbour has ring v, which the pixel itself has not. Most have all eight, whose places the compiler then knows.
