@@ -51,9 +51,9 @@ fn unheld(
     ensures { result ≡ unheld_here (packed w low.now) (packed w up.now) (packed w below.now) (packed w above.now) (λ o. get_or rings.now o 0)
         (r * w + c) }
 {
-    (pixel(up, w, h, r, c) || pixel(above, w, h, r, c))
+    rings[r * w + c] == 0
         && !(pixel(low, w, h, r, c) || pixel(below, w, h, r, c))
-        && rings[r * w + c] == 0
+        && (pixel(up, w, h, r, c) || pixel(above, w, h, r, c))
 }
 
 // Whether the ring is bad, where rings are looked for, and else whether the pixel is unheld.

@@ -6,9 +6,7 @@ ghost use Rattle.leans.specs.Leaning.{About, Step, Good, Tells};
 
 use crate::Told;
 
-// The rows or columns before, at and behind x, of n in all; x stands in for one that the image lacks. It stays a call: else the compiler works
-// out for every pixel what only those at an edge need.
-#[inline(never)]
+// The rows or columns before, at and behind x, of n in all; x stands in for one that the image lacks.
 fn three(x: usize, n: usize) -> [usize; 3]
     requires { (x < n) × (n ≤ 256) }
     ensures { About x n result }
@@ -21,7 +19,7 @@ fn inside(x: usize, n: usize) -> bool
     requires { x < n }
     ensures { result ≡ true → (0 < x) × (x + 1 < n) }
 {
-    0 < x && x + 1 < n
+    0 < x && x < n - 1
 }
 
 // Whether one of the pixels in these rows and columns has ring v.
@@ -41,15 +39,26 @@ fn among(rings: &[u16], w: usize, rows: [usize; 3], columns: [usize; 3], v: u16)
     found
 }
 
-// Whether a neighbour has ring v, which the pixel itself has not. Most have all eight, whose places the compiler then knows.
+// Whether a neighbour has ring v, which the pixel itself has not, in the first or last column. It stays a call: else the compiler keeps ready
+// for every pixel what only those two columns need.
+#[cold]
+#[inline(never)]
+fn steps_at_edge(rings: &[u16], w: usize, h: usize, r: usize, c: usize, v: u16) -> bool
+    requires { (Sized w h × (length rings.now ≡ h * w)) × ((r < h) × (c < w)) }
+    ensures { result ≡ true → Step w h rings.now r c v }
+{
+    among(rings, w, three(r, h), three(c, w), v)
+}
+
+// The same in any column. Most have one on both sides, whose places the compiler then knows.
 fn steps(rings: &[u16], w: usize, h: usize, r: usize, c: usize, v: u16) -> bool
     requires { (Sized w h × (length rings.now ≡ h * w)) × ((r < h) × (c < w)) }
     ensures { result ≡ true → Step w h rings.now r c v }
 {
-    if inside(r, h) && inside(c, w) {
-        return among(rings, w, [r - 1, r, r + 1], [c - 1, c, c + 1], v);
+    if inside(c, w) {
+        return among(rings, w, three(r, h), [c - 1, c, c + 1], v);
     }
-    among(rings, w, three(r, h), three(c, w), v)
+    steps_at_edge(rings, w, h, r, c, v)
 }
 
 // Whether the pixel at bit k of the word at column x may carry its ring v.

@@ -15,7 +15,7 @@ pub fn bit(m: u8, k: usize) -> bool
     requires { k < 8 }
     ensures { result ≡ bit_at m k }
 {
-    digit(u64::from(m), 7 - k)
+    digit(u64::from(m >> (7 - k)), 0) // shifted while it is a byte, which comes to one test of a mask
 }
 
 // The first bit that is set, from column `from` on and before `to`.
@@ -24,6 +24,9 @@ pub fn bit_from(m: u8, from: usize, to: usize) -> Option<usize>
     ensures first { FirstOf from to (λ k. bit_at m k) (unwrap_or result to) }
     ensures inside { IfSome result (λ k. k < to) }
 {
+    if m == 0 {
+        return None;
+    }
     for k in from..to {
         if bit(m, k) {
             return Some(k);

@@ -1,7 +1,11 @@
 use Rattle.std.proofs.Common.{sym, ◌∙◌, arith}
 use Rattle.rules.specs.Images.{bit_at}
+use Rattle.places.specs.BitLaws.{no_bit}
 use Rattle.places.specs.Finding.{least_none, least_one, fails_more}
 use Rattle.places.proofs.bits.bit_from.Goals as goal
+
+pub returns-then-m-eq0-clause-first : goal.returns-then-m-eq0-clause-first
+returns-then-m-eq0-clause-first c = least_none c.args.from c.args.to _ c.requires.0 (λ y a l. no_bit c.args.m y c.if-m-eq0.true)
 
 pub loop-k-init : goal.loop-k-init
 loop-k-init c = λ y a l. absurd (omega arith)
