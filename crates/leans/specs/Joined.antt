@@ -1,5 +1,5 @@
 -- Laws of rings joined, of eight rings at once, of the neighbours and of a good ring.
-use Rattle.std.specs.Prelude.{◌≡◌, refl, Bool, true, false, not, ◌&&◌, ◌||◌, cond, List, ℕ, ◌+◌, ◌-◌, ◌*◌, ◌/◌, ◌^◌, ◌<◌, ◌≤◌, ltb, eqb, length, get_or, set, Option, IfSome}
+use Rattle.std.specs.Prelude.{◌≡◌, refl, Bool, true, false, not, ◌&&◌, ◌||◌, cond, List, [], ◌∷◌, ℕ, zero, suc, ◌+◌, ◌-◌, ◌*◌, ◌/◌, ◌^◌, ◌<◌, ◌≤◌, ltb, eqb, length, get_or, set, Option, IfSome}
 use Rattle.std.proofs.Common.{sym, ap, subst, ◌∙◌, arith, below_more, ltb-true, ltb-false, lt-ltb, le-ltb, eq-eqb, ne_eqb, get_or-set_same, get_or-set_other}
 use Rattle.std.proofs.Math.Decide.{dec_lt}
 use Rattle.std.specs.Bool.{then_some}
@@ -10,8 +10,9 @@ use Rattle.rules.specs.Tools.{bit}
 use Rattle.rules.specs.Images.{bit_at}
 use Rattle.laws.specs.Tests.{split, or_false, and_true, and_false}
 use Rattle.image.specs.Bits.{or_none}
+use Rattle.places.specs.Planes.{in_plane}
 use Rattle.words.specs.Words.{bit_of_word, word_bit}
-use Rattle.leans.specs.Leaning.{Alike, Good, Got, Tells}
+use Rattle.leans.specs.Leaning.{About, Alike, Good, Got, Tells}
 use Rattle.leans.specs.declared.Told.{Told}
 use Rattle.leans.specs.BitLaws.{bit_zero, bit_or_lem, bit_at_lem, word_bit_lem, covered_bit, byte_of_word}
 
@@ -55,6 +56,22 @@ bit_small false = omega arith
 
 pub xor_same : (a b : ℕ) → bit_xor a b ≡ 0 → a ≡ b
 xor_same a b e = omega (arith, xor_add_and a b, and_le_l a b, and_le_r a b)
+
+-- The neighbours -----------------------------------------------------------------------------------------------------------
+
+about_inside : (x n : ℕ) → 0 < x → x + 1 < n → About x n ((x - 1) ∷ x ∷ (x + 1) ∷ [])
+about_inside x n lo hi = (refl, among)
+  where
+    among : (i : ℕ) → i < 3 → (get_or ((x - 1) ∷ x ∷ (x + 1) ∷ []) i 0 < n) × ((x ≤ get_or ((x - 1) ∷ x ∷ (x + 1) ∷ []) i 0 + 1) × (get_or ((x - 1) ∷ x ∷ (x + 1) ∷ []) i 0 ≤ x + 1))
+    among zero l = (omega arith, (omega arith, omega arith))
+    among (suc zero) l = (omega arith, (omega arith, omega arith))
+    among (suc (suc zero)) l = (omega arith, (omega arith, omega arith))
+    among (suc (suc (suc i))) l = absurd (omega arith)
+
+-- the nine about a pixel that has all eight neighbours lie in the plane
+pub nine_in : (w h r c : ℕ) → 0 < r → r + 1 < h → 0 < c → c + 1 < w → (i j : ℕ) → i < 3 → j < 3 →
+    get_or ((r - 1) ∷ r ∷ (r + 1) ∷ []) i 0 * w + get_or ((c - 1) ∷ c ∷ (c + 1) ∷ []) j 0 < h * w
+nine_in w h r c a b d e i j l k = in_plane w h _ _ ((about_inside r h a b).1 i l).0 ((about_inside c w d e).1 j k).0
 
 -- A good ring --------------------------------------------------------------------------------------------------------------
 
